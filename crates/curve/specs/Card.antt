@@ -35,3 +35,16 @@ with-class (Err f) k = Err (Page f k)
 pub data Unloaded (bs : List ℕ) (class : ℕ) : CardFault → Type 0 where
   page : {k : Cause} {j : ℕ} → Refused bs k j → Unloaded bs class (Page (record { cause = k; point = j }) class)
   outside : (c : Points) → Accepted bs c → 7 < class → Unloaded bs class (Class class)
+
+-- the curve of one class is another, those of the others are as they were
+pub record Replaced (old new : ℕ → Points) (class : ℕ) (c : Points) : Type 0 where
+  pub here : new class ≡ c
+  pub others : (k : ℕ) → (k ≡ class → ⊥) → new k ≡ old k
+
+-- a class is loaded from its page, which has n points
+pub record Loaded (bs : List ℕ) (class : ℕ) (old new : ℕ → Points) (n : ℕ) : Type 0 where
+  pub curve : Points
+  pub page : Accepted bs curve
+  pub range : class ≤ 7
+  pub replaced : Replaced old new class curve
+  pub count : n ≡ curve .count

@@ -2,8 +2,6 @@
 
 use mathlib.Core.Path.{_≡_}
 use Prim.Native.Nat.{ℕ, _-_, _*_, _/_, _≤_}
-use Rattle.std.specs.declared.result.Result.{Result}
-use Rattle.std.specs.declared.result.Result.the-variants.{Ok, Err}
 use Rattle.cause.specs.declared.Cause.{Cause}
 use Rattle.cause.specs.declared.Cause.the-variants.{FieldOutside, PastCurve}
 use Rattle.curve.specs.Points.{Points, Haircut, Past}
@@ -23,9 +21,18 @@ pub record InRange (t : Terms) : Type 0 where
 abbrev pub collateral : ℕ → ℕ → ℕ
 collateral market h = market * (10000 - h) / 10000
 
--- what comes of pricing a lot, with the curve of each class
-pub data Priced (curve : ℕ → Points) (t : Terms) : Result Lot Cause → Type 0 where
-  priced : InRange t → (h : ℕ) → Haircut (curve (t .class)) (t .months) h
-      → Priced curve t (Ok (record { issuer = t .issuer; class = t .class; rating = t .rating; months = t .months; market = t .market; worth = collateral (t .market) h }))
-  outside : (InRange t → ⊥) → Priced curve t (Err FieldOutside)
-  past : InRange t → Past (curve (t .class)) (t .months) → Priced curve t (Err PastCurve)
+-- the lot that is made of terms under a haircut
+abbrev pub lot-of : Terms → ℕ → Lot
+lot-of t h = record { issuer = t .issuer; class = t .class; rating = t .rating; months = t .months; market = t .market; worth = collateral (t .market) h }
+
+-- a lot is priced, with the curve of each class
+pub record Priced (curve : ℕ → Points) (t : Terms) (l : Lot) : Type 0 where
+  pub ranges : InRange t
+  pub haircut : ℕ
+  pub at : Haircut (curve (t .class)) (t .months) haircut
+  pub lot : l ≡ lot-of t haircut
+
+-- or it is refused: for a field outside its range, and else for months after the curve's last point
+pub data Unpriced (curve : ℕ → Points) (t : Terms) : Cause → Type 0 where
+  outside : (InRange t → ⊥) → Unpriced curve t FieldOutside
+  past : InRange t → Past (curve (t .class)) (t .months) → Unpriced curve t PastCurve

@@ -19,3 +19,12 @@ pub struct Curve {
     ghost rising: { None-below count (month-breaks (points count months haircuts .month)) },
     ghost falling: { None-below count (haircut-breaks (points count months haircuts .haircut)) },
 }
+
+impl Curve {
+    // How many points there are.
+    pub fn count(&self) -> usize
+        ensures { λ r. ⌜ r ≡ now (self .entry) .count ⌝ }
+    {
+        self.count
+    }
+}

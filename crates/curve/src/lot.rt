@@ -5,10 +5,9 @@ ghost use mathlib.Core.Bool.{true};
 ghost use Prim.Native.Nat.{ℕ, _<_, _≤_};
 ghost use Rattle.std.specs.Orderings.{Decides};
 ghost use Rattle.std.specs.Results.{Cases};
-ghost use Rattle.curve.specs.Points.{Haircut, Past};
-ghost use Rattle.cause.specs.declared.Cause.the-variants.{PastCurve};
+ghost use Rattle.curve.specs.Points.{Haircut};
 ghost use Rattle.curve.specs.Card.{nth-points};
-ghost use Rattle.curve.specs.Lot.{InRange, collateral as value-of, Priced};
+ghost use Rattle.curve.specs.Lot.{InRange, collateral as value-of, lot-of, Priced, Unpriced};
 use crate::card::Card;
 use cause::Cause;
 
@@ -46,23 +45,42 @@ impl Terms {
             && self.market <= 100_000_000_000
     }
 
-    // The lot with its collateral value, fixed by the curve of its class.
-    pub fn price(&self, card: &Card) -> Result<Lot, Cause>
-        ensures { λ r. ⌜ Priced (nth-points (now (card .entry) .curves)) (now (self .entry)) r ⌝ }
+    // The haircut of a lot with these terms.
+    fn haircut(&self, card: &Card) -> Result<u16, Cause>
+        ensures { λ r. ⌜ Cases r
+            (λ h. InRange (now (self .entry)) × Haircut (nth-points (now (card .entry) .curves) (now (self .entry) .class)) (now (self .entry) .months) h × (h ≤ 10000))
+            (λ e. Unpriced (nth-points (now (card .entry) .curves)) (now (self .entry)) e) ⌝ }
     {
         let lawful = self.in_range();
         if !lawful {
             return Err(Cause::FieldOutside);
         }
-        let haircut = card.haircut(self.class, self.months)?;
-        Ok(Lot {
+        card.haircut(self.class, self.months)
+    }
+
+    // The lot with these terms under a haircut.
+    fn lot(&self, haircut: u16) -> Lot
+        requires { ⌜ InRange (now self) × (haircut ≤ 10000) ⌝ }
+        ensures { λ r. ⌜ r ≡ lot-of (now (self .entry)) haircut ⌝ }
+    {
+        Lot {
             issuer: self.issuer as u8,
             class: self.class as u8,
             rating: self.rating as u8,
             months: self.months as u16,
             market: self.market,
             worth: collateral(self.market, haircut),
-        })
+        }
+    }
+
+    // The lot with its collateral value, fixed by the curve of its class.
+    pub fn price(&self, card: &Card) -> Result<Lot, Cause>
+        ensures { λ r. ⌜ Cases r
+            (λ l. Priced (nth-points (now (card .entry) .curves)) (now (self .entry)) l)
+            (λ e. Unpriced (nth-points (now (card .entry) .curves)) (now (self .entry)) e) ⌝ }
+    {
+        let haircut = self.haircut(card)?;
+        Ok(self.lot(haircut))
     }
 }
 

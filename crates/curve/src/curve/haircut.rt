@@ -38,19 +38,31 @@ impl Curve {
         n
     }
 
-    // A point has its own haircut; after the last point there is none.
-    pub fn haircut(&self, month: u64) -> Result<u16, Cause>
-        ensures { λ r. ⌜ Cases r (λ h. Haircut (held (now (self .entry))) month h × (h ≤ 10000)) (λ e. (e ≡ PastCurve) × Past (held (now (self .entry))) month) ⌝ }
+    // The haircut at a month, `n` points being at or before it: the last of them has its own.
+    fn within(&self, n: usize, month: u64) -> u16
+        requires place { ⌜ (1 ≤ n) × (n ≤ now self .count) × (held (now self) .month (n - 1) ≤ month) ⌝ }
+        requires next { ⌜ (n < now self .count → month < held (now self) .month n) ⌝ }
+        requires last { ⌜ (n ≡ now self .count → month ≡ held (now self) .month (n - 1)) ⌝ }
+        ensures { λ h. ⌜ Haircut (held (now (self .entry))) month h × (h ≤ 10000) ⌝ }
     {
-        let n = self.reached(month);
         let a = self.months[n - 1];
         let p = self.haircuts[n - 1];
         if a as u64 == month {
-            return Ok(p);
+            return p;
         }
-        if n == self.count {
+        between(a, p, self.months[n], self.haircuts[n], month)
+    }
+
+    // A point has its own haircut; after the last point there is none.
+    pub fn haircut(&self, month: u64) -> Result<u16, Cause>
+        ensures { λ r. ⌜ Cases r
+            (λ h. Haircut (held (now (self .entry))) month h × (h ≤ 10000))
+            (λ e. (e ≡ PastCurve) × Past (held (now (self .entry))) month) ⌝ }
+    {
+        let n = self.reached(month);
+        if n == self.count && month > self.months[n - 1] as u64 {
             return Err(Cause::PastCurve);
         }
-        Ok(between(a, p, self.months[n], self.haircuts[n], month))
+        Ok(self.within(n, month))
     }
 }

@@ -34,20 +34,28 @@ fn put_all(buffer: &mut [u8], at: usize, xs: &[u16; 16], count: usize)
 }
 
 impl Curve {
+    // Writes this curve as its page at the start of a buffer that has room for it.
+    fn fill(&self, buffer: &mut [u8])
+        requires { ⌜ 1 + 4 * now self .count ≤ length (now buffer) ⌝ }
+        ensures { λ _. ⌜ Written (held (now (self .entry))) (now (buffer .entry)) (now (buffer .exit)) (1 + 4 * now (self .entry) .count) ⌝ }
+    {
+        let count = self.count;
+        buffer[0] = count as u8;
+        put_all(buffer, 1, &self.months, count);
+        put_all(buffer, 1 + 2 * count, &self.haircuts, count);
+    }
+
     // Writes this curve as its page and returns the length; the bytes after it stay.
     pub fn write(&self, buffer: &mut [u8]) -> Result<usize, Cause>
         ensures { λ r. ⌜ Cases r
             (λ n. (n ≡ 1 + 4 * now (self .entry) .count) × Written (held (now (self .entry))) (now (buffer .entry)) (now (buffer .exit)) n)
             (λ e. (e ≡ BufferShort) × (length (now (buffer .entry)) < 1 + 4 * now (self .entry) .count) × (now (buffer .exit) ≡ now (buffer .entry))) ⌝ }
     {
-        let count = self.count;
-        let size = 1 + 4 * count;
+        let size = 1 + 4 * self.count;
         if buffer.len() < size {
             return Err(Cause::BufferShort);
         }
-        buffer[0] = count as u8;
-        put_all(buffer, 1, &self.months, count);
-        put_all(buffer, 1 + 2 * count, &self.haircuts, count);
+        self.fill(buffer);
         Ok(size)
     }
 }
