@@ -83,6 +83,7 @@ one-onward N mark a b e la lb = elim (cases-eq b a) [
 -- the first i arcs of the trail have got their x
 pub record Sending (N : Net) (f₀ f mark path : ℕ → ℕ) (x d i : ℕ) : Type 0 where
   pub sent : Sent N f₀ f mark x (stop N path i)
+  pub behind : (j : ℕ) → j < i → room N f (path j) + x ≡ room N f₀ (path j)
   pub ahead : (j : ℕ) → i ≤ j → j < d → room N f (path j) ≡ room N f₀ (path j)
 
 trail-from : (N : Net) (f mark path : ℕ → ℕ) (d : ℕ) → mark (N .source) ≡ 1 → Trail N f mark path d → (i : ℕ) → i < d → mark (from N (path i)) ≡ i + 1
@@ -94,9 +95,15 @@ trail-from N f mark path d e t (suc i) h =
 module _ (N : Net) (f₀ mark path : ℕ → ℕ) (x d : ℕ) (first : mark (N .source) ≡ 1) (t : Trail N f₀ mark path d) where
   pub send-start : ((k : ℕ) → k < N .arcs → f₀ k ≤ N .cap k) → Sending N f₀ f₀ mark path x d 0
   send-start w = record {
-    sent = record { within = w; balance = λ v. omega arith; falls = λ b h l. omega arith; only = λ b h l. absurd (omega arith) };
-    ahead = λ j h l. refl;
-  }
+      sent = record { within = w; balance = λ v. omega arith; falls = λ b h l. omega arith; only = λ b h l. absurd (omega arith) };
+      behind = λ j h. absurd (omega arith);
+      ahead = λ j h l. refl }
+
+  -- the arcs of a trail are of different arcs of the network
+  other : (i j : ℕ) → i < d → j < d → (i ≡ j → ⊥) → path j / 2 ≡ path i / 2 → ⊥
+  other i j h l n e =
+      let q = one-onward N mark (path i) (path j) e (t .onward i h) (t .onward j l) in
+      n (omega (arith, ap (λ y. mark (from N y)) q, trail-from N f₀ mark path d first t i h, trail-from N f₀ mark path d first t j l))
 
   pub send-more : (f f′ : ℕ → ℕ) (i : ℕ) → i < d → Sending N f₀ f mark path x d i → Pushed N f f′ (path i) x → Sending N f₀ f′ mark path x d (i + 1)
   send-more f f′ i h s p =
@@ -106,23 +113,17 @@ module _ (N : Net) (f₀ mark path : ℕ → ℕ) (x d : ℕ) (first : mark (N .
           within = p .within (s .sent .within);
           balance = λ v. omega (arith, s .sent .balance v, p .balance v, ap (λ u. when (eqb v u) x) (t .joined i h));
           falls = λ b hb lb. elim (cases-eq (b / 2) (path i / 2)) [
-            | inl e ↦ let q = one-onward N mark (path i) b e la lb in omega (arith, ap (room N f′) q, ap (room N f) q, p .fell, s .sent .falls b hb lb)
-            | inr n ↦ omega (arith, p .rest b n, s .sent .falls b hb lb)
-          ];
+            inl e ↦ let q = one-onward N mark (path i) b e la lb in omega (arith, ap (room N f′) q, ap (room N f) q, p .fell, s .sent .falls b hb lb)
+          | inr n ↦ omega (arith, p .rest b n, s .sent .falls b hb lb) ];
           only = λ b hb lt. elim (cases-eq (b / 2) (path i / 2)) [
-            | inl e ↦ elim (cases-eq b (path i)) [
-              | inl q ↦ subst (λ y. Onward N mark y) (sym q) la
-              | inr n ↦ s .sent .only b hb (omega (arith, p .rose b e n))
-            ]
-            | inr n ↦ s .sent .only b hb (omega (arith, p .rest b n))
-          ];
-        });
-        ahead = λ j hj l.
-            let n : path j / 2 ≡ path i / 2 → ⊥ = λ e.
-            let q = one-onward N mark (path i) (path j) e la (t .onward j l) in
-            omega (arith, ap (λ y. mark (from N y)) q, trail-from N f₀ mark path d first t i h, trail-from N f₀ mark path d first t j l) in
-            p .rest (path j) n ∙ s .ahead j (omega arith) l;
-      }
+            inl e ↦ elim (cases-eq b (path i)) [
+                inl q ↦ subst (λ y. Onward N mark y) (sym q) la
+              | inr n ↦ s .sent .only b hb (omega (arith, p .rose b e n)) ]
+          | inr n ↦ s .sent .only b hb (omega (arith, p .rest b n)) ] });
+        behind = λ j hj. elim (cases-eq j i) [
+          inl e ↦ omega (arith, ap (λ k. room N f′ (path k)) e, ap (λ k. room N f₀ (path k)) e, p .fell, s .ahead i (omega arith) h)
+        | inr n ↦ omega (arith, p .rest (path j) (other i j h (omega arith) (λ e. n (sym e))), s .behind j (omega arith)) ];
+        ahead = λ j hj l. p .rest (path j) (other i j h l (λ e. omega arith)) ∙ s .ahead j (omega arith) l }
 
 -- what was sent to the sink is a flow again
 pub sent-flow : (N : Net) (f₀ f mark : ℕ → ℕ) (x : ℕ) → Flow N f₀ → Sent N f₀ f mark x (N .sink) → Flow N f

@@ -46,3 +46,9 @@ pub record Layers (N : Net) (f : ℕ → ℕ) (mark : ℕ → ℕ) : Type 0 wher
   pub onward : (a : ℕ) → a < 2 * N .arcs → 0 < room N f a → 0 < mark (from N a) → (0 < mark (to N a)) × (mark (to N a) ≤ mark (from N a) + 1)
   pub backward : (v : ℕ) → v < N .nodes → 1 < mark v → (a : ℕ) × (a < 2 * N .arcs) × (0 < room N f a) × (to N a ≡ v) × (mark (from N a) + 1 ≡ mark v)
   pub lone : (v : ℕ) → v < N .nodes → mark v ≡ 1 → v ≡ N .source
+
+-- the residual arcs that leave each node v, in a list: inc v 0, .. inc v (deg v - 1). It may name an arc more than once.
+pub record Listed (N : Net) (deg : ℕ → ℕ) (inc : ℕ → ℕ → ℕ) : Type 0 where
+  pub known : (v i : ℕ) → v < N .nodes → i < deg v → inc v i < 2 * N .arcs
+  pub leaves : (v i : ℕ) → v < N .nodes → i < deg v → from N (inc v i) ≡ v
+  pub whole : (a : ℕ) → a < 2 * N .arcs → (i : ℕ) × (i < deg (from N a)) × (inc (from N a) i ≡ a)
