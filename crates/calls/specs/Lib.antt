@@ -1,0 +1,7 @@
+pub mod State
+pub mod Situation
+pub mod Instructions
+pub mod Call
+pub mod Step
+pub mod Life
+pub mod Laws

@@ -1,0 +1,36 @@
+// What each call on a pledge book does, as one relation over its state; the lives of a book, and the
+// law over all of them. Definitions and laws; the plain types that the calls take and give.
+
+ghost use Rattle.calls.specs.Laws.{Every-life-sound};
+
+// An exposure: a lender's loan that wants cover.
+#[derive(Clone, Copy)]
+pub struct Exposure {
+    pub amount: u64,
+    pub schedule: u64,
+}
+
+// A change of one pledge: what the lot at a place pledges to the exposure at a place, more or less.
+#[derive(Clone, Copy)]
+pub struct Instruction {
+    pub lot: u8,
+    pub exposure: u8,
+    pub amount: i64,
+}
+
+// The marks of a shortage: bit p of a word stands for place p. An issuer is marked at its smallest
+// held lot place.
+#[derive(Clone, Copy)]
+pub struct Record {
+    pub exposures: u16,
+    pub lots: u64,
+    pub issuers: [u64; 16],
+}
+
+// At the opening and after every call of every life: both tables are lawful, an allocation is granted
+// exactly if some lawful table covers, and the instructions add up to the standing pledges.
+pub fn every_life_is_sound() -> u8
+    ensures { λ _. ⌜ Every-life-sound ⌝ }
+{
+    0
+}
