@@ -1,0 +1,5 @@
+// A pledge book: its state, the calls that change it, and the readings.
+
+pub mod book;
+mod pledges;
+pub mod slip;
