@@ -5,3 +5,4 @@ pub mod Places
 pub mod Few
 pub mod Pricing
 pub mod Steps
+pub mod Noting

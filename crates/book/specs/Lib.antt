@@ -1,3 +1,5 @@
 pub mod Kept
 pub mod View
 pub mod Answers
+pub mod Readings
+pub mod Asked
