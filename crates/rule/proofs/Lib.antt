@@ -6,3 +6,4 @@ pub mod Trees
 pub mod Viable
 pub mod Passing
 pub mod Reading
+pub mod Deciding

@@ -258,6 +258,13 @@ module _ (t : List ℕ) (w : Mode) (l : Level) (ls : List Level) (c : List Step)
         (λ s. record { expected = e; small = g; shallow = o; few = s }))))
         (λ e. bad-byte e)
 
+    pub next-alive : Allowed w m (length ls) n → (v : Mode) × (j : Level) × (js : List Level) × (d : List Step) × (next (at w l ls c) m ≡ at v j js d)
+    next-alive a = go (next (at w l ls c) m) (λ e. alive-on (a .expected) (onto ∙ e))
+      where
+        go : (st : State) → (st ≡ dead → ⊥) → (v : Mode) × (j : Level) × (js : List Level) × (d : List Step) × (st ≡ at v j js d)
+        go dead e = absurd (e refl)
+        go (at v j js d) e = (v, j, js, d, refl)
+
     -- one byte more
     pub reading-more : Allowed w m (length ls) n → (v : Mode) (j : Level) (js : List Level) (d : List Step) (o q : ℕ) → at v j js d ≡ next (at w l ls c) m →
         o ≡ n + bit (steps m) → q ≡ first-digit m i k → Reading t v j js d o q (i + 1)

@@ -24,6 +24,12 @@ use Rattle.rule.specs.Refusing.{verdict, first-digit}
 use Rattle.rule.specs.Says.{Accepted, says}
 use Rattle.rule.specs.Views.{state, waiting}
 
+-- the reader comes to stand at the state st
+pub record Becomes (before after : Reader) (st : State) : Type 0 where
+  pub stands : state after ≡ st
+  pub count : after .count ≡ before .count
+  pub digit : after .digit ≡ before .digit
+
 abbrev pub judgement : Reader → Mark → ℕ → Result (Unit {0}) TextFault
 judgement r m i = verdict (r .mode) m (length (waiting (r .outer))) (r .count) i (r .digit)
 

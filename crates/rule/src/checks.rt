@@ -3,8 +3,9 @@
 ghost use mathlib.Core.Path.{_≡_};
 ghost use mathlib.Core.Bool.{_&&_};
 ghost use Prim.Native.Nat.{_≤_, _+_};
-ghost use lib.Dec.{eqb};
-ghost use Rattle.grammar.specs.Grammar.{deepest, most-steps};
+ghost use lib.Dec.{eqb, ltb};
+ghost use lib.ListN.{length};
+ghost use Rattle.grammar.specs.Grammar.{deepest, longest, most-steps};
 ghost use Rattle.rule.specs.Machine.{bit};
 ghost use Rattle.rule.specs.Marks.{steps, opens};
 ghost use Rattle.rule.specs.Refusing.{expects, is-follow, large as exceeds, first-digit};
@@ -15,6 +16,12 @@ use crate::marks::Mark;
 use crate::marks::is_step;
 
 const LARGEST: u32 = 65535;
+
+pub fn too_long(text: &[u8]) -> bool
+    ensures { λ r. ⌜ r ≡ ltb longest (length (now (text .entry))) ⌝ }
+{
+    text.len() > 1024
+}
 
 // A closing bracket wants an open one.
 fn can_follow(mark: Mark, depth: usize) -> bool

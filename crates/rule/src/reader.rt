@@ -9,7 +9,7 @@ ghost use lib.ListN.{length};
 ghost use Rattle.rule.specs.Machine.{bit, wait, waits, weight, closed, leads, follows, next, settle as settled, start, in-test};
 ghost use Rattle.rule.specs.Marks.{opens, steps};
 ghost use Rattle.rule.specs.Marks.{mark-of};
-ghost use Rattle.rule.specs.Reads.{judgement, ends, Taken, Concluded, Read};
+ghost use Rattle.rule.specs.Reads.{Becomes, judgement, ends, Taken, Concluded, Read};
 ghost use Rattle.rule.specs.Refusing.{expects, is-follow, large as exceeds};
 ghost use Rattle.rule.specs.Views.{state, waiting, code as written};
 use crate::brackets::Brackets;
@@ -18,6 +18,7 @@ use crate::checks::expected;
 use crate::checks::large;
 use crate::checks::number_place;
 use crate::checks::too_deep;
+use crate::checks::too_long;
 use crate::checks::too_many;
 use crate::fault::TextFault;
 use crate::held::Rule;
@@ -52,7 +53,7 @@ impl Reader {
             mode: Mode::Want,
             level: Level::fresh(),
             outer: Brackets::none(),
-            rule: Rule::empty(),
+            rule: Rule::blank(),
             count: 0,
             digit: 0,
         }
@@ -93,8 +94,7 @@ impl Reader {
     // A factor is complete.
     fn complete(&mut self, level: Level)
         requires { ⌜ length (written (now self .rule)) + (bit (level .negated) + bit (level .both)) ≤ 64 ⌝ }
-        ensures after { λ _. ⌜ state (now (self .exit)) ≡ closed level (waiting (now (self .entry) .outer)) (written (now (self .entry) .rule)) ⌝ }
-        ensures kept { λ _. ⌜ (now (self .exit) .count ≡ now (self .entry) .count) × (now (self .exit) .digit ≡ now (self .entry) .digit) ⌝ }
+        ensures { λ _. ⌜ Becomes (now (self .entry)) (now (self .exit)) (closed level (waiting (now (self .entry) .outer)) (written (now (self .entry) .rule))) ⌝ }
     {
         self.rule.finish(level);
         self.level = level.rested();
@@ -104,8 +104,7 @@ impl Reader {
     // A test is complete.
     fn test(&mut self, field: Field, sign: Sign, number: u16)
         requires { ⌜ length (written (now self .rule)) + 1 + (bit (now self .level .negated) + bit (now self .level .both)) ≤ 64 ⌝ }
-        ensures after { λ _. ⌜ state (now (self .exit)) ≡ closed (now (self .entry) .level) (waiting (now (self .entry) .outer)) (written (now (self .entry) .rule) ++ Step.Test field sign number ∷ []) ⌝ }
-        ensures kept { λ _. ⌜ (now (self .exit) .count ≡ now (self .entry) .count) × (now (self .exit) .digit ≡ now (self .entry) .digit) ⌝ }
+        ensures { λ _. ⌜ Becomes (now (self .entry)) (now (self .exit)) (closed (now (self .entry) .level) (waiting (now (self .entry) .outer)) (written (now (self .entry) .rule) ++ Step.Test field sign number ∷ [])) ⌝ }
     {
         let level = self.level;
         self.rule.push(Step::Test(field, sign, number));
@@ -116,8 +115,7 @@ impl Reader {
     fn lead(&mut self, lead: Lead)
         requires want { ⌜ now self .mode ≡ Mode.Want ⌝ }
         requires deep { ⌜ length (waiting (now self .outer)) + bit (opens (Mark.Lead lead)) ≤ 16 ⌝ }
-        ensures after { λ _. ⌜ state (now (self .exit)) ≡ leads (now (self .entry) .level) (waiting (now (self .entry) .outer)) (written (now (self .entry) .rule)) lead ⌝ }
-        ensures kept { λ _. ⌜ (now (self .exit) .count ≡ now (self .entry) .count) × (now (self .exit) .digit ≡ now (self .entry) .digit) ⌝ }
+        ensures { λ _. ⌜ Becomes (now (self .entry)) (now (self .exit)) (leads (now (self .entry) .level) (waiting (now (self .entry) .outer)) (written (now (self .entry) .rule)) lead) ⌝ }
     {
         match lead {
             Lead::Letter(field) => self.mode = Mode::Named(field),
@@ -133,8 +131,7 @@ impl Reader {
     fn follow(&mut self, follow: Follow)
         requires open { ⌜ is-follow (Mark.Follow follow) (length (waiting (now self .outer))) ≡ true ⌝ }
         requires room { ⌜ bit (now self .level .either) + wait (waiting (now self .outer)) + length (written (now self .rule)) ≤ 64 ⌝ }
-        ensures after { λ _. ⌜ state (now (self .exit)) ≡ follows (now (self .entry) .level) (waiting (now (self .entry) .outer)) (written (now (self .entry) .rule)) follow ⌝ }
-        ensures kept { λ _. ⌜ (now (self .exit) .count ≡ now (self .entry) .count) × (now (self .exit) .digit ≡ now (self .entry) .digit) ⌝ }
+        ensures { λ _. ⌜ Becomes (now (self .entry)) (now (self .exit)) (follows (now (self .entry) .level) (waiting (now (self .entry) .outer)) (written (now (self .entry) .rule)) follow) ⌝ }
     {
         match follow {
             Follow::And => {
@@ -160,8 +157,7 @@ impl Reader {
         requires small { ⌜ exceeds (now self .mode) mark ≡ false ⌝ }
         requires deep { ⌜ length (waiting (now self .outer)) + bit (opens mark) ≤ 16 ⌝ }
         requires room { ⌜ weight (state (now self)) + bit (steps mark) ≤ 64 ⌝ }
-        ensures after { λ _. ⌜ state (now (self .exit)) ≡ next (state (now (self .entry))) mark ⌝ }
-        ensures kept { λ _. ⌜ (now (self .exit) .count ≡ now (self .entry) .count) × (now (self .exit) .digit ≡ now (self .entry) .digit) ⌝ }
+        ensures { λ _. ⌜ Becomes (now (self .entry)) (now (self .exit)) (next (state (now (self .entry))) mark) ⌝ }
     {
         match (self.mode, mark) {
             (Mode::Want, Mark::Lead(lead)) => self.lead(lead),
@@ -236,7 +232,7 @@ impl Reader {
 pub fn read(text: &[u8]) -> Result<Rule, TextFault>
     ensures { λ r. ⌜ Read (now (text .entry)) r ⌝ }
 {
-    if text.len() > 1024 {
+    if too_long(text) {
         return Err(TextFault {
             cause: Cause::TextLong,
             place: 0,

@@ -1,30 +1,17 @@
-// Writing a rule's steps, and running them.
+// Writing a rule's steps.
 
 ghost use mathlib.Core.Path.{_≡_};
 ghost use mathlib.Core.List.{[], _∷_, _++_};
 ghost use Prim.Native.Nat.{_+_, _<_, _≤_};
 ghost use lib.ListN.{length};
 ghost use Rattle.rule.specs.Machine.{bit, step-if, finished, ended as ended-by};
-ghost use Rattle.rule.specs.Pile.{acts, top as last};
 ghost use Rattle.rule.specs.Views.{code as written};
 use crate::held::Rule;
 use crate::levels::Level;
 use crate::steps::Step;
-use crate::steps::act;
-use crate::steps::top;
-use grammar::Description;
 
 impl Rule {
-    pub fn empty() -> Rule
-        ensures { λ r. ⌜ written r ≡ [] ⌝ }
-    {
-        Rule {
-            steps: [Step::Negate; 64],
-            len: 0,
-        }
-    }
-
-    pub fn push(&mut self, step: Step)
+    pub(crate) fn push(&mut self, step: Step)
         requires { ⌜ length (written (now self)) < 64 ⌝ }
         ensures { λ _. ⌜ written (now (self .exit)) ≡ written (now (self .entry)) ++ step ∷ [] ⌝ }
     {
@@ -42,7 +29,7 @@ impl Rule {
     }
 
     // What waited for a factor is written after it.
-    pub fn finish(&mut self, level: Level)
+    pub(crate) fn finish(&mut self, level: Level)
         requires { ⌜ length (written (now self)) + (bit (level .negated) + bit (level .both)) ≤ 64 ⌝ }
         ensures { λ _. ⌜ written (now (self .exit)) ≡ finished level (written (now (self .entry))) ⌝ }
     {
@@ -51,21 +38,10 @@ impl Rule {
     }
 
     // What waited for a term is written after it.
-    pub fn end(&mut self, level: Level)
+    pub(crate) fn end(&mut self, level: Level)
         requires { ⌜ length (written (now self)) + bit (level .either) ≤ 64 ⌝ }
         ensures { λ _. ⌜ written (now (self .exit)) ≡ ended-by level (written (now (self .entry))) ⌝ }
     {
         self.push_if(level.either, Step::Either);
-    }
-
-    pub fn run(&self, lot: Description) -> bool
-        ensures { λ r. ⌜ r ≡ last (acts lot (written (now (self .entry))) 0) ⌝ }
-    {
-        let mut pile: u64 = 0;
-        for i in 0..self.len {
-            let step = self.steps[i];
-            pile = act(step, lot, pile);
-        }
-        top(pile)
     }
 }

@@ -3,22 +3,22 @@ use native.Mathlib.Omega.{arith}
 use lib.Dec.{eqb}
 use lib.ListN.{length}
 use Rattle.std.proofs.shelf.Results.{err-from-errBy}
-use Rattle.std.proofs.shelf.Tests.{and-parts, eqb-true}
+use Rattle.std.proofs.shelf.Tests.{and-parts, eqb-true, ltb-true, ltb-false}
 use Rattle.rule.specs.Reads.{ends}
 use Rattle.rule.specs.Views.{waiting}
 use Rattle.rule.proofs.Passing.{least-long}
 use Rattle.rule.proofs.Reading.{Reading, Judged, reading-none, reading-more, room, judged, allowed-if, bad-end, granted}
 use Rattle.rule.proofs.reader.read.Needs as need
 
-pub returns-then-text-gt1024 : need.returns-then-text-gt1024
-returns-then-text-gt1024 c = least-long (c .args .text .now) (omega arith)
+pub returns-then-too-long : need.returns-then-too-long
+returns-then-too-long c = least-long (c .args .text .now) (ltb-true 1024 (length (c .args .text .now)) (sym (c .too-long .ensures) ∙ c .if-too-long .taken))
 
 pub loop-place-holds : need.loop-place-holds
-loop-place-holds c = reading-none _ _ _ _ _ _ _ (omega arith) (c .new-reader .ensures .place) (c .new-reader .ensures .count .0) (c .new-reader .ensures .count .1)
+loop-place-holds c = reading-none _ _ _ _ _ _ _ (ltb-false 1024 (length (c .args .text .now)) (sym (c .too-long .ensures) ∙ c .if-too-long .left)) (c .new-reader .ensures .place) (c .new-reader .ensures .count .0) (c .new-reader .ensures .count .1)
 
 pub take-requires : need.take-requires
 take-requires c κs = record {
-  near = omega (arith, c .if-text-gt1024 .left, c .loop-place-test .taken);
+  near = omega (arith, c .loop-place .inv .passed .short, c .loop-place-test .taken);
   few = c .loop-place .inv .few;
   room = room _ _ _ _ _ _ _ _ (c .loop-place .inv);
 }

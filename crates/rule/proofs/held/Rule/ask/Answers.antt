@@ -3,7 +3,7 @@ use Prim.Native.Nat.{_+_, _<_, _^_}
 use native.Mathlib.Omega.{arith}
 use Rattle.rule.specs.Pile.{act}
 use Rattle.rule.proofs.Piles.{acts-more, act-fits}
-use Rattle.rule.proofs.held.Rule.run.Needs as need
+use Rattle.rule.proofs.held.Rule.ask.Needs as need
 
 pub loop-i-again : need.loop-i-again
 loop-i-again c =
