@@ -1,0 +1,5 @@
+mod Lawful
+mod Zeroed
+mod Tallies
+mod Allocations
+mod Lives

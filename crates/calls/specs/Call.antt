@@ -1,9 +1,8 @@
 -- To believe: the calls with what they are passed, what comes back, and why a call is refused.
 
-use mathlib.Core.Path.{_≡_}
-use mathlib.Core.Bool.{Bool, true, false, cond, not, _&&_, _||_}
+use mathlib.Core.Bool.{Bool, cond, not, _&&_}
 use mathlib.Core.List.{List, []}
-use Prim.Native.Nat.{ℕ, zero, suc, _+_, _-_, _*_}
+use Prim.Native.Nat.{ℕ, _-_, _*_}
 use lib.Dec.{eqb, leb, ltb}
 use lib.ListN.{length, take}
 use Rattle.std.specs.declared.option.Option.{Option}
@@ -108,15 +107,15 @@ first b e rest = cond b (Some e) rest
 abbrev pub cause : Meaning → State → Call → Option Cause
 cause m s (add p t k) =
     first (ltb 63 p) PlaceOutside (first (s .in-run) RunOpen (first (held-at (s .lots) p) PlaceTaken
-      (first (not (in-range t)) FieldOutside (first (past-end (curve-of k (t .class)) (t .months)) PastCurve None))))
+    (first (not (in-range t)) FieldOutside (first (past-end (curve-of k (t .class)) (t .months)) PastCurve None))))
 cause m s (withdraw p) =
     first (ltb 63 p) PlaceOutside (first (s .in-run) RunOpen (first (not (held-at (s .lots) p)) PlaceEmpty (first (pledged-at s p) LotPledged None)))
 cause m s (open-exposure p a n) =
     first (ltb 15 p) PlaceOutside (first (s .in-run) RunOpen (first (open-at (s .exposures) p) PlaceTaken
-      (first (not (leb 1 a && leb a 1000000000000)) FieldOutside (first (not (m .held n)) ScheduleUnknown None))))
+    (first (not (leb 1 a && leb a 1000000000000)) FieldOutside (first (not (m .held n)) ScheduleUnknown None))))
 cause m s (close p list) =
     first (ltb 15 p) PlaceOutside (first (s .in-run) RunOpen (first (not (open-at (s .exposures) p)) PlaceEmpty
-      (first (ltb (length list) (held-lots s)) ListShort None)))
+    (first (ltb (length list) (held-lots s)) ListShort None)))
 cause m s begin = first (s .in-run) RunOpen (first (leb 1000000 (s .run)) RunsSpent None)
 cause m s (allocate slip r) = first (not (own s slip)) SlipStale None
 cause m s (settle slip list) = first (not (own s slip)) SlipStale (first (ltb (length list) (held-lots s * open-exposures s)) ListShort None)

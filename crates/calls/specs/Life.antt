@@ -5,7 +5,7 @@ use mathlib.Core.Bool.{true}
 use mathlib.Core.List.{List, [], _++_}
 use mathlib.Core.Logic.{_↔_}
 use Prim.Native.Nat.{ℕ, _<_, _≤_}
-use lib.IntN.{ℤ, pos}
+use lib.IntN.{pos}
 use Rattle.binder.specs.Meaning.{Meaning}
 use Rattle.table.specs.Table.{Table, Lawful, Covers, uncovered}
 use Rattle.table.specs.Record.{Explains}
@@ -25,7 +25,7 @@ use Rattle.calls.specs.Step.{Step, marks}
 pub data Life (m : Meaning) (number : ℕ) : State → List Instruction → Type 0 where
   opened : Life m number (opening number) []
   next : {s : State} {given : List Instruction} → Life m number s given
-    → (c : Call) (o : Outcome) (t : State) → Step m c s o t → Life m number t (given ++ given-out o)
+      → (c : Call) (o : Outcome) (t : State) → Step m c s o t → Life m number t (given ++ given-out o)
 
 -- the slip of the open run
 abbrev pub slip-of-run : State → Numbers
@@ -68,5 +68,5 @@ pub record Sound (m : Meaning) (s : State) (given : List Instruction) : Type 0 w
   pub tallies : (l e : ℕ) → l < 64 → e < 16 → amounts given l e ≡ pos (table (s .standing) l e)
   -- a granted settling makes the working table stand; a granted abandoning makes the working table the standing one again
   pub settles : (slip : Numbers) (list : List Instruction) (n : ℕ) (new : List Instruction) (t : State)
-    → Step m (settle slip list) s (settled n new) t → (t .standing ≡ s .working) × (t .working ≡ s .working)
+      → Step m (settle slip list) s (settled n new) t → (t .standing ≡ s .working) × (t .working ≡ s .working)
   pub abandons : (slip : Numbers) (t : State) → Step m (abandon slip) s abandoned t → (t .working ≡ s .standing) × (t .standing ≡ s .standing)

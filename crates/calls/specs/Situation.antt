@@ -1,6 +1,6 @@
 -- To believe: what a table is judged by, in a book under a binder.
 
-use mathlib.Core.Bool.{Bool, true, false}
+use mathlib.Core.Bool.{Bool, false}
 use mathlib.Core.List.{List}
 use Prim.Native.Nat.{ℕ, _*_, _/_}
 use Rattle.std.specs.declared.option.Option.{Option}
@@ -48,7 +48,8 @@ situation-of m lots exposures = record {
   opened = open-at exposures;
   amount = λ e. amount-of (exposure-at exposures e);
   admits = λ l e. admits-of m (lot-at lots l) (exposure-at exposures e);
-  limit = λ e i. limit-of m (exposure-at exposures e) i }
+  limit = λ e i. limit-of m (exposure-at exposures e) i;
+}
 
 abbrev pub situation : Meaning → State → Situation
 situation m s = situation-of m (s .lots) (s .exposures)

@@ -1,7 +1,7 @@
 -- To believe: what each call does to a book, and what it answers.
 
 use mathlib.Core.Path.{_≡_}
-use mathlib.Core.Bool.{Bool, true, false, cond}
+use mathlib.Core.Bool.{Bool, true, false}
 use mathlib.Core.List.{List}
 use mathlib.Core.Logic.{_⊎_}
 use Prim.Native.Nat.{ℕ, zero, suc, _+_, _*_, _/_, _%_, _^_}
@@ -21,7 +21,7 @@ use Rattle.calls.specs.declared.Record.{Record}
 use Rattle.calls.specs.State.{State, table}
 use Rattle.calls.specs.Situation.{situation}
 use Rattle.calls.specs.Instructions.{changes, closings, written}
-use Rattle.calls.specs.Call.{Call, Outcome, Numbers, cause, kept, curve-of}
+use Rattle.calls.specs.Call.{Call, Outcome, cause, kept, curve-of}
 use Rattle.calls.specs.Call.Call.{add, withdraw, open-exposure, close, begin, allocate, settle, abandon}
 use Rattle.calls.specs.Call.Outcome.{refused, short, added, withdrawn, exposed, closed, began, allocated, settled, abandoned}
 
@@ -75,12 +75,12 @@ Grants m (withdraw p) s o t = (o ≡ withdrawn) × (t ≡ with-lot s p None)
 Grants m (open-exposure p a n) s o t = (o ≡ exposed) × (t ≡ with-exposure s p (Some (record { amount = a; schedule = n })))
 Grants m (close p list) s o t =
     (o ≡ closed (length (closings (s .standing) p 64)) (written (closings (s .standing) p 64) list))
-  × (t ≡ with-tables (with-exposure s p None) (zeroed (s .standing) p 64) (zeroed (s .working) p 64))
+    × (t ≡ with-tables (with-exposure s p None) (zeroed (s .standing) p 64) (zeroed (s .working) p 64))
 Grants m begin s o t = (o ≡ began (record { book = s .number; run = s .run + 1 })) × (t ≡ with-run s (s .run + 1) true)
 Grants m (allocate slip note) s o t = Serves m s note o t ⊎ Denies m s o t
 Grants m (settle slip list) s o t =
     (o ≡ settled (length (changes (s .standing) (s .working) 1024)) (written (changes (s .standing) (s .working) 1024) list))
-  × (t ≡ with-run (with-tables s (s .working) (s .working)) (s .run) false)
+    × (t ≡ with-run (with-tables s (s .working) (s .working)) (s .run) false)
 Grants m (abandon slip) s o t = (o ≡ abandoned) × (t ≡ with-run (with-tables s (s .standing) (s .standing)) (s .run) false)
 
 -- a call is refused for its first cause, and then nothing changes; with no cause against it, it is granted
