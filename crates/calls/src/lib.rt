@@ -1,7 +1,7 @@
 // What each call on a pledge book does, as one relation over its state; the lives of a book, and the
 // law over all of them. Definitions and laws; the plain types that the calls take and give.
 
-ghost use Rattle.calls.specs.Laws.{Every-life-sound};
+ghost use Rattle.calls.specs.Laws.{Every-life-sound, Smallest-cause};
 
 // An exposure: a lender's loan that wants cover.
 #[derive(Clone, Copy)]
@@ -25,6 +25,14 @@ pub struct Record {
     pub exposures: u16,
     pub lots: u64,
     pub issuers: [u64; 16],
+}
+
+// A call is refused for the cause with the smallest number of those that apply to it, and for no other;
+// where none applies it is not refused. (That no lawful table covers is said by what allocating grants.)
+pub fn smallest_cause_is_given() -> u8
+    ensures { λ _. ⌜ Smallest-cause ⌝ }
+{
+    0
 }
 
 // At the opening and after every call of every life: both tables are lawful, an allocation is granted
