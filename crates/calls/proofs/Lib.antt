@@ -1,3 +1,4 @@
+mod Causes
 mod Lawful
 mod Zeroed
 mod Tallies

@@ -1,6 +1,7 @@
 // What each call on a pledge book does, as one relation over its state; the lives of a book, and the
 // law over all of them. Definitions and laws; the plain types that the calls take and give.
 
+ghost use Rattle.calls.specs.Laws.{Every-life-sound, Smallest-cause};
 
 // An exposure: a lender's loan that wants cover.
 #[derive(Clone, Copy)]
@@ -24,4 +25,20 @@ pub struct Record {
     pub exposures: u16,
     pub lots: u64,
     pub issuers: [u64; 16],
+}
+
+// A call is refused for the cause with the smallest number of those that apply to it, and for no other;
+// where none applies it is not refused. (That no lawful table covers is said by what allocating grants.)
+pub fn smallest_cause_is_given() -> u8
+    ensures { λ _. ⌜ Smallest-cause ⌝ }
+{
+    0
+}
+
+// At the opening and after every call of every life: both tables are lawful, an allocation is granted
+// exactly if some lawful table covers, and the instructions add up to the standing pledges.
+pub fn every_life_is_sound() -> u8
+    ensures { λ _. ⌜ Every-life-sound ⌝ }
+{
+    0
 }
