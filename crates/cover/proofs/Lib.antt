@@ -1,0 +1,5 @@
+pub mod Lists
+pub mod First
+pub mod Rows
+pub mod Picture
+pub mod Loading
