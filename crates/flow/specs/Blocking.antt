@@ -6,6 +6,11 @@ use Rattle.network.specs.Flow.{Net, Flow}
 use Rattle.network.specs.Residual.{to, room}
 use Rattle.network.specs.Augment.{Onward, Trail, stop, Blocked}
 
+-- marks that the search may go by: 1 at the source, and none past the number of nodes
+pub record Marks (N : Net) (mark : ℕ → ℕ) : Type 0 where
+  pub first : mark (N .source) ≡ 1
+  pub low : (v : ℕ) → v < N .nodes → mark v ≤ N .nodes
+
 -- the cursor of v has passed its last arc: v is given up
 abbrev pub Spent : Net → (ℕ → ℕ) → (ℕ → ℕ) → ℕ → Type 0
 Spent N deg cursor v = (v ≡ N .sink → ⊥) × (deg v ≤ cursor v)

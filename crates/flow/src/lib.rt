@@ -1,5 +1,12 @@
 //! Maximum flow by Dinic's rounds, over any network.
 
-mod network;
+mod block;
 mod layers;
+mod network;
+mod rounds;
+mod work;
 pub use network::Network;
+pub use rounds::Refusal;
+pub use rounds::maximize;
+pub use rounds::maximize_from_zero;
+pub use work::Work;
