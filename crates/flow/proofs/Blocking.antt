@@ -48,19 +48,22 @@ module _ {N : Net} {deg : ℕ → ℕ} {inc : ℕ → ℕ → ℕ} {f mark curso
 
   pub cursors-move : ((i : ℕ) → cursor u ≤ i → i < j → 0 < room N f (inc u i) → Onward N mark (inc u i) → Spent N deg cursor (to N (inc u i))) → Cursors N deg inc f mark cursor′
   cursors-move dead = record {
-      low = λ v h. elim (cases-eq v u) [ inl e ↦ omega (arith, ap cursor′ e, ap deg e, m .0) | inr n ↦ omega (arith, m .1 v n, k .low v h) ];
-      dead = λ v i h l r y. elim (cases-lt i (cursor v)) [
-        inl old ↦ spent-stays _ (k .dead v i h old r y)
+    low = λ v h. elim (cases-eq v u) [ inl e ↦ omega (arith, ap cursor′ e, ap deg e, m .0) | inr n ↦ omega (arith, m .1 v n, k .low v h) ];
+    dead = λ v i h l r y. elim (cases-lt i (cursor v)) [
+      | inl old ↦ spent-stays _ (k .dead v i h old r y)
       | inr new ↦
           let e : v ≡ u = elim (cases-eq v u) [ inl e ↦ e | inr n ↦ absurd (omega (arith, m .1 v n)) ] in
           let ea : inc v i ≡ inc u i = ap (λ x. inc x i) e in
-          spent-stays _ (subst (λ a. Spent N deg cursor (to N a)) (sym ea) (dead i (omega (arith, ap cursor e)) (omega (arith, ap cursor′ e, m .0)) (subst (λ a. 0 < room N f a) ea r) (subst (λ a. Onward N mark a) ea y))) ] }
+          spent-stays _ (subst (λ a. Spent N deg cursor (to N a)) (sym ea) (dead i (omega (arith, ap cursor e)) (omega (arith, ap cursor′ e, m .0)) (subst (λ a. 0 < room N f a) ea r) (subst (λ a. Onward N mark a) ea y)))
+    ];
+  }
 
   -- what is left of the arcs
   pub cursors-left : u < N .nodes → (Sum (N .nodes) cursor′ + cursor u ≡ Sum (N .nodes) cursor + j) × (Sum (N .nodes) cursor′ ≤ Sum (N .nodes) deg)
-  cursors-left h =
-      (omega (arith, sum-change (N .nodes) u cursor′ cursor h (m .1), m .0),
-       sum-le (N .nodes) cursor′ deg (λ x l. elim (cases-eq x u) [ inl e ↦ omega (arith, ap cursor′ e, ap deg e, m .0) | inr n ↦ omega (arith, m .1 x n, k .low x l) ]))
+  cursors-left h = (
+    omega (arith, sum-change (N .nodes) u cursor′ cursor h (m .1), m .0),
+    sum-le (N .nodes) cursor′ deg (λ x l. elim (cases-eq x u) [ inl e ↦ omega (arith, ap cursor′ e, ap deg e, m .0) | inr n ↦ omega (arith, m .1 x n, k .low x l) ]),
+  )
 
 -- all cursors at the first arc
 pub cursors-none : (N : Net) (deg : ℕ → ℕ) (inc : ℕ → ℕ → ℕ) (f mark cursor : ℕ → ℕ) → ((v : ℕ) → v < N .nodes → cursor v ≡ 0) → Cursors N deg inc f mark cursor
@@ -69,17 +72,19 @@ cursors-none N deg inc f mark cursor z = record { low = λ v h. omega (arith, z 
 -- dead arcs stay dead
 pub sent-cursors : {N : Net} {deg : ℕ → ℕ} {inc : ℕ → ℕ → ℕ} {f₀ f mark cursor : ℕ → ℕ} {x u : ℕ} → Listed N deg inc → Sent N f₀ f mark x u → Cursors N deg inc f₀ mark cursor → Cursors N deg inc f mark cursor
 sent-cursors {inc = inc} t s k = record {
-    low = k .low;
-    dead = λ v i h l r y. k .dead v i h l (omega (arith, s .falls (inc v i) (t .known v i h (omega (arith, k .low v h))) y)) y }
+  low = k .low;
+  dead = λ v i h l r y. k .dead v i h l (omega (arith, s .falls (inc v i) (t .known v i h (omega (arith, k .low v h))) y)) y;
+}
 
 module _ {N : Net} {deg : ℕ → ℕ} {inc : ℕ → ℕ → ℕ} {f mark : ℕ → ℕ} (L : Lawful N deg inc) (M : Marks N mark) where
   pub walk-start : (cursor path stack : ℕ → ℕ) → stack 0 ≡ N .source → Cursors N deg inc f mark cursor → Walking N deg inc f mark cursor path stack 0
   walk-start cursor path stack e k = record {
-      cursors = k;
-      trail = trail-none N f mark path;
-      nodes = λ i h. let z : i ≡ 0 = omega arith in ap stack z ∙ e ∙ ap (stop N path) (sym z);
-      stands = λ i h. absurd (omega arith);
-      deep = omega (arith, L .sound .source-in) }
+    cursors = k;
+    trail = trail-none N f mark path;
+    nodes = λ i h. let z : i ≡ 0 = omega arith in ap stack z ∙ e ∙ ap (stop N path) (sym z);
+    stands = λ i h. absurd (omega arith);
+    deep = omega (arith, L .sound .source-in);
+  }
 
   module _ {cursor path stack : ℕ → ℕ} {d : ℕ} (p : Walking N deg inc f mark cursor path stack d) where
     pub stack-in : (i : ℕ) → i ≤ d → stack i < N .nodes
@@ -96,18 +101,19 @@ module _ {N : Net} {deg : ℕ → ℕ} {inc : ℕ → ℕ → ℕ} {f mark : ℕ
 
     -- the trail is cut to its first e arcs, and the cursor of the node there moves on
     shift : (cursor′ : ℕ → ℕ) (e j : ℕ) → e ≤ d → Put cursor cursor′ (stack e) j → cursor (stack e) ≤ j → j ≤ deg (stack e)
-      → ((i : ℕ) → cursor (stack e) ≤ i → i < j → 0 < room N f (inc (stack e) i) → Onward N mark (inc (stack e) i) → Spent N deg cursor (to N (inc (stack e) i)))
-      → Walking N deg inc f mark cursor′ path stack e
+        → ((i : ℕ) → cursor (stack e) ≤ i → i < j → 0 < room N f (inc (stack e) i) → Onward N mark (inc (stack e) i) → Spent N deg cursor (to N (inc (stack e) i)))
+        → Walking N deg inc f mark cursor′ path stack e
     shift cursor′ e j h m low high dead = record {
-        cursors = cursors-move (p .cursors) cursor′ (stack e) j m low high dead;
-        trail = trail-less N f mark path d e h (p .trail);
-        nodes = λ i l. p .nodes i (omega arith);
-        stands = λ i l.
+      cursors = cursors-move (p .cursors) cursor′ (stack e) j m low high dead;
+      trail = trail-less N f mark path d e h (p .trail);
+      nodes = λ i l. p .nodes i (omega arith);
+      stands = λ i l.
           let n : stack i ≡ stack e → ⊥ = λ y. omega (arith, ap mark y, stack-mark i (omega arith), stack-mark e h) in
           let q = m .1 (stack i) n in
           let z = p .stands i (omega arith) in
           (omega (arith, z .0), ap (inc (stack i)) q ∙ z .1);
-        deep = omega (arith, p .deep) }
+      deep = omega (arith, p .deep);
+    }
 
     -- the cursor at the end of the trail moves to the first arc that is open
     pub walk-scan : (cursor′ : ℕ → ℕ) (v i : ℕ) → v ≡ stack d → First N deg inc f mark v (cursor v) i → Put cursor cursor′ v i → Walking N deg inc f mark cursor′ path stack d
@@ -115,11 +121,11 @@ module _ {N : Net} {deg : ℕ → ℕ} {inc : ℕ → ℕ → ℕ} {f mark : ℕ
         let z : First N deg inc f mark (stack d) (cursor (stack d)) i = subst (λ u. First N deg inc f mark u (cursor u) i) e y in
         let h = stack-in d (omega arith) in
         shift cursor′ d i (omega arith) (subst (λ u. Put cursor cursor′ u i) e m) (z .low) (z .high)
-          (λ j l q r o. absurd (z .passed j l q r (o .1 ∙ ap (λ x. mark x + 1) (L .listed .leaves (stack d) j h (omega (arith, z .high))))))
+        (λ j l q r o. absurd (z .passed j l q r (o .1 ∙ ap (λ x. mark x + 1) (L .listed .leaves (stack d) j h (omega (arith, z .high))))))
 
     -- along the arc at the cursor
     pub walk-on : (path′ stack′ : ℕ → ℕ) (v i a w : ℕ) → v ≡ stack d → cursor v ≡ i → i < deg v → 0 < room N f (inc v i) → mark (to N (inc v i)) ≡ mark v + 1 → a ≡ inc v i → w ≡ to N (inc v i)
-      → Put path path′ d a → Put stack stack′ (d + 1) w → Walking N deg inc f mark cursor path′ stack′ (d + 1)
+        → Put path path′ d a → Put stack stack′ (d + 1) w → Walking N deg inc f mark cursor path′ stack′ (d + 1)
     walk-on path′ stack′ v i a w ev ei l r y ea ew mp ms =
         let vin : v < N .nodes = omega (arith, stack-in d (omega arith)) in
         let known : a < 2 * N .arcs = omega (arith, L .listed .known v i vin l) in
@@ -135,31 +141,34 @@ module _ {N : Net} {deg : ℕ → ℕ} {inc : ℕ → ℕ → ℕ} {f mark : ℕ
           cursors = p .cursors;
           trail = t;
           nodes = λ j h. elim (cases-eq j (d + 1)) [
-            inl q ↦ ap stack′ q ∙ ms .0 ∙ sym et ∙ sym te ∙ ap (stop N path′) (sym q)
-          | inr n ↦ kept j (omega arith) ∙ p .nodes j (omega arith) ∙ sym (stop-same N path′ path j d (omega arith) same) ];
+            | inl q ↦ ap stack′ q ∙ ms .0 ∙ sym et ∙ sym te ∙ ap (stop N path′) (sym q)
+            | inr n ↦ kept j (omega arith) ∙ p .nodes j (omega arith) ∙ sym (stop-same N path′ path j d (omega arith) same)
+          ];
           stands = λ j h. elim (cases-eq j d) [
-            inl q ↦
-              let es : stack′ j ≡ v = ap stack′ q ∙ kept d (omega arith) ∙ sym ev in
-              let ec : cursor (stack′ j) ≡ i = ap cursor es ∙ ei in
-              (omega (arith, ec, ap deg es), ap (λ u. inc u (cursor (stack′ j))) es ∙ ap (inc v) ec ∙ sym ea ∙ sym (ap path′ q ∙ mp .0))
-          | inr n ↦
-              let es = kept j (omega arith) in
-              let z = p .stands j (omega arith) in
-              (omega (arith, z .0, ap cursor es, ap deg es), ap (λ u. inc u (cursor u)) es ∙ z .1 ∙ sym (same j (omega arith))) ];
-          deep = omega (arith, M .low w win, ap mark ew, ap mark ev, stack-mark d (omega arith)) }
+            | inl q ↦
+                let es : stack′ j ≡ v = ap stack′ q ∙ kept d (omega arith) ∙ sym ev in
+                let ec : cursor (stack′ j) ≡ i = ap cursor es ∙ ei in
+                (omega (arith, ec, ap deg es), ap (λ u. inc u (cursor (stack′ j))) es ∙ ap (inc v) ec ∙ sym ea ∙ sym (ap path′ q ∙ mp .0))
+            | inr n ↦
+                let es = kept j (omega arith) in
+                let z = p .stands j (omega arith) in
+                (omega (arith, z .0, ap cursor es, ap deg es), ap (λ u. inc u (cursor u)) es ∙ z .1 ∙ sym (same j (omega arith)))
+          ];
+          deep = omega (arith, M .low w win, ap mark ew, ap mark ev, stack-mark d (omega arith));
+        }
 
     -- back from a node that is given up, past the arc that led to it
     pub walk-back : (cursor′ : ℕ → ℕ) (v : ℕ) → v ≡ stack d → 0 < d → (v ≡ N .sink → ⊥) → deg v ≤ cursor v → Put cursor cursor′ (stack (d - 1)) (cursor (stack (d - 1)) + 1)
-      → Walking N deg inc f mark cursor′ path stack (d - 1)
+        → Walking N deg inc f mark cursor′ path stack (d - 1)
     walk-back cursor′ v ev h ns full m =
         let z = p .stands (d - 1) (omega arith) in
         let ed : suc (d - 1) ≡ d = omega arith in
         let et : to N (path (d - 1)) ≡ v = ap (stop N path) ed ∙ sym (p .nodes d (omega arith)) ∙ sym ev in
         shift cursor′ (d - 1) (cursor (stack (d - 1)) + 1) (omega arith) m (omega arith) (omega (arith, z .0))
-          (λ i l q r o.
-            let ei : i ≡ cursor (stack (d - 1)) = omega arith in
-            let ea : inc (stack (d - 1)) i ≡ path (d - 1) = ap (inc (stack (d - 1))) ei ∙ z .1 in
-            subst (λ u. Spent N deg cursor u) (sym (ap (to N) ea ∙ et)) (ns, full))
+        (λ i l q r o.
+        let ei : i ≡ cursor (stack (d - 1)) = omega arith in
+        let ea : inc (stack (d - 1)) i ≡ path (d - 1) = ap (inc (stack (d - 1))) ei ∙ z .1 in
+        subst (λ u. Spent N deg cursor u) (sym (ap (to N) ea ∙ et)) (ns, full))
 
     -- before that, the arc at the cursor is there to pass
     pub last-in : 0 < d → (stack (d - 1) < N .nodes) × (cursor (stack (d - 1)) < deg (stack (d - 1))) × (deg (stack (d - 1)) < 2 ^ 32)
@@ -174,7 +183,7 @@ module _ {N : Net} {deg : ℕ → ℕ} {inc : ℕ → ℕ → ℕ} {f mark : ℕ
 
 -- one turn of the search: the cursor at the end of the trail moves to the first arc that is open
 module _ {N : Net} {deg : ℕ → ℕ} {inc : ℕ → ℕ → ℕ} {f mark path stack : ℕ → ℕ} {d v i : ℕ} (L : Lawful N deg inc) (M : Marks N mark) (cursor : List ℕ)
-  (p : Walking N deg inc f mark (at cursor) path stack d × (v ≡ stack d)) (y : First N deg inc f mark v (at cursor v) i) (long : N .nodes ≤ length cursor) where
+    (p : Walking N deg inc f mark (at cursor) path stack d × (v ≡ stack d)) (y : First N deg inc f mark v (at cursor v) i) (long : N .nodes ≤ length cursor) where
   moved : Put (at cursor) (at (set cursor v i)) v i
   moved = put cursor v i (let E = end-in L M (p .0) v (p .1) in omega (arith, E))
 

@@ -27,13 +27,14 @@ module _ {N : Net} {f mark queue : ℕ → ℕ} {done count : ℕ} (s : Sound N)
   -- all queued nodes are done
   bfs-layers : done ≡ count → Layers N f mark
   bfs-layers e = record {
-      first = b .first;
-      onward = λ a h r p.
+    first = b .first;
+    onward = λ a h r p.
         let w = b .found (from N a) (from-in N s a h) p in
         let o = b .past (w .0) (omega (arith, w .1)) a h (sym (w .2)) r in
         omega (arith, o, ap mark (w .2));
-      backward = b .backward;
-      lone = b .lone }
+    backward = b .backward;
+    lone = b .lone;
+  }
 
   -- a marked node has a walk as long as its mark says
   climbs : (d v : ℕ) → v < N .nodes → mark v ≡ suc d → Walk N f v d
@@ -51,8 +52,9 @@ module _ {N : Net} {f mark queue : ℕ → ℕ} {done count : ℕ} (s : Sound N)
         let i = near-walk (from N a) n w (omega arith) in
         let q = b .found (from N a) (from-in N s a l) (i .0) in
         let before : q .0 < done = elim (cases-lt (q .0) done) [
-            inl y ↦ y
-          | inr y ↦ absurd (omega (arith, b .sorted done (q .0) y (q .1), ap mark (q .2), i .1)) ] in
+          | inl y ↦ y
+          | inr y ↦ absurd (omega (arith, b .sorted done (q .0) y (q .1), ap mark (q .2), i .1))
+        ] in
         let o = b .past (q .0) before a l (sym (q .2)) r in
         omega (arith, o, ap mark (q .2), i)
 
@@ -61,27 +63,33 @@ module _ {N : Net} {f mark queue : ℕ → ℕ} {done count : ℕ} (s : Sound N)
 
     bfs-nearer : 0 < mark (N .sink) → Nearer N f mark
     bfs-nearer p = record {
-        least = λ v d w q. elim (cases-lt d (mark (queue done))) [
-          inl y ↦ near-walk v d w y .1
-        | inr y ↦ omega (arith, marks-low v (walk-in N f s v d w) q) ];
-        reached = λ v h q. climbs (mark v - 1) v h (omega arith);
-        whole = λ v d w h. near-walk v d w (omega (arith, marks-low (N .sink) (s .sink-in) p)) .0 }
+      least = λ v d w q. elim (cases-lt d (mark (queue done))) [
+        | inl y ↦ near-walk v d w y .1
+        | inr y ↦ omega (arith, marks-low v (walk-in N f s v d w) q)
+      ];
+      reached = λ v h q. climbs (mark v - 1) v h (omega arith);
+      whole = λ v d w h. near-walk v d w (omega (arith, marks-low (N .sink) (s .sink-in) p)) .0;
+    }
 
   pub bfs-searched : (done < count → 0 < mark (N .sink)) → Searched N f mark
   bfs-searched stops = record {
-      first = b .first;
-      low = λ v h. omega (arith, b .low v h, bfs-fits b);
-      out = λ z. elim (cases-lt done count) [
-        inl y ↦ absurd (omega (arith, stops y))
-      | inr y ↦ layers-distances N f mark s (bfs-layers (omega (arith, b .bound))) ];
-      near = λ p. elim (cases-lt done count) [
-        inl y ↦ bfs-nearer y p
+    first = b .first;
+    low = λ v h. omega (arith, b .low v h, bfs-fits b);
+    out = λ z. elim (cases-lt done count) [
+      | inl y ↦ absurd (omega (arith, stops y))
+      | inr y ↦ layers-distances N f mark s (bfs-layers (omega (arith, b .bound)))
+    ];
+    near = λ p. elim (cases-lt done count) [
+      | inl y ↦ bfs-nearer y p
       | inr y ↦
           let l = layers-distances N f mark s (bfs-layers (omega (arith, b .bound))) in
           record {
             least = λ v d w _. l .least v d w .1;
             reached = l .reached;
-            whole = λ v d w _. l .least v d w .0 } ] }
+            whole = λ v d w _. l .least v d w .0;
+          }
+    ];
+  }
 
 -- marks as far as the sink, against the true layers
 module _ (N : Net) (f mark dist : ℕ → ℕ) (s : Sound N) (n : Nearer N f mark) (l : Distances N f dist) (p : 0 < mark (N .sink)) where
@@ -111,8 +119,8 @@ module _ (N : Net) (f mark dist : ℕ → ℕ) (s : Sound N) (n : Nearer N f mar
   pub nearer-round : (f′ : ℕ → ℕ) → Flow N f → Filled N f f′ mark → Round N f f′
   nearer-round f′ q z =
       round-of N f f′ dist l (omega (arith, exact (N .sink) (s .sink-in) p)) q (z .flows)
-        (λ b h c. onward-there b h (z .only b h c))
-        (λ w. z .blocks (leads-back f′ (N .source) (s .source-in) (l .least (N .source) 0 stay .0) w .2))
+      (λ b h c. onward-there b h (z .only b h c))
+      (λ w. z .blocks (leads-back f′ (N .source) (s .source-in) (l .least (N .source) 0 stay .0) w .2))
 
 pub searched-round : (N : Net) (f f′ mark : ℕ → ℕ) → Sound N → Searched N f mark → 0 < mark (N .sink) → Flow N f → Filled N f f′ mark → Round N f f′
 searched-round N f f′ mark s n p q z = nearer-round N f mark (distance N f) s (n .near p) (distances N f s) p f′ q z

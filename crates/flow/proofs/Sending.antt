@@ -91,7 +91,8 @@ module _ {N : Net} {deg : ℕ → ℕ} {inc : ℕ → ℕ → ℕ} {f₀ f mark 
           trail = record { known = o .known; roomy = λ j k. omega (arith, l .before j k, along j (omega (arith, l .inside))); onward = o .onward; joined = o .joined };
           nodes = λ j k. walk .nodes j (omega (arith, l .inside));
           stands = λ j k. walk .stands j (omega (arith, l .inside));
-          deep = omega (arith, l .inside, walk .deep) }
+          deep = omega (arith, l .inside, walk .deep);
+        }
 
 pub filled : {N : Net} {deg : ℕ → ℕ} {inc : ℕ → ℕ → ℕ} {f₀ f mark cursor path stack : ℕ → ℕ} {d : ℕ} → Filling N deg inc f₀ f mark cursor path stack d → d ≡ 0 → Filled N f₀ f mark
 filled p e = record { flows = p .flows; only = p .only; blocks = p .state .none e }

@@ -1,7 +1,8 @@
 -- To believe: what the solver leaves behind.
 
+use Prim.{Unit}
 use mathlib.Core.Path.{_≡_}
-use mathlib.Core.Bool.{Bool, cond}
+use mathlib.Core.Bool.{Bool, cond, _&&_}
 use mathlib.Core.List.{List}
 use Prim.Native.Nat.{ℕ, _<_}
 use lib.Dec.{eqb, leb, ltb}
@@ -14,7 +15,7 @@ use Rattle.std.specs.declared.option.Option.the-variants.{Some, None}
 use Rattle.std.specs.declared.result.Result.{Result}
 use Rattle.std.specs.declared.result.Result.the-variants.{Ok, Err}
 use Rattle.flow.specs.declared.rounds.Refusal.{Refusal}
-use Rattle.flow.specs.declared.rounds.Refusal.the-variants.{FlowLength, NodesMany}
+use Rattle.flow.specs.declared.rounds.Refusal.the-variants.{FlowLength, MemoryShort}
 use Rattle.flow.specs.Lists.{at}
 
 -- the nodes with a mark
@@ -31,12 +32,19 @@ pub record Solved (N : Net) (f f′ mark : ℕ → ℕ) (r : ℕ) : Type 0 where
   pub minimum : Minimum N (marked mark)
   pub equal : value N f′ ≡ capacity N (marked mark)
 
--- why the solver refuses to run, the first that applies: the flow has a place for each arc, or too few or too many; the network has more
--- nodes than the memory is for
-abbrev pub refusal : Net → ℕ → ℕ → Option Refusal
-refusal N places room = cond (eqb places (N .arcs)) (cond (leb (N .nodes) room) None (Some NodesMany)) (Some FlowLength)
+-- why the solver refuses to run, the first that applies: the flow has not one place for each arc; some of the memory has fewer places than
+-- there are nodes
+abbrev pub refusal : Net → ℕ → ℕ → ℕ → ℕ → ℕ → Option Refusal
+refusal N flow mark queue cursor path =
+    cond (eqb flow (N .arcs)) (cond (leb (N .nodes) mark && (leb (N .nodes) queue && (leb (N .nodes) cursor && leb (N .nodes) path))) None (Some MemoryShort)) (Some FlowLength)
 
--- what comes of a call that begins with the flow f: it is refused, and nothing changes; or it runs, and solves the network
-abbrev pub Outcome : Net → (ℕ → ℕ) → List ℕ → List ℕ → ℕ → (ℕ → ℕ) → Type 0 → Result ℕ Refusal → Type 0
-Outcome N f flow flow′ room mark unchanged (Ok r) = (refusal N (length flow) room ≡ None) × Solved N f (at flow′) mark r
-Outcome N f flow flow′ room mark unchanged (Err e) = (refusal N (length flow) room ≡ Some e) × (flow′ ≡ flow) × unchanged
+abbrev pub Checked : Net → ℕ → ℕ → ℕ → ℕ → ℕ → Result Unit Refusal → Type 0
+Checked N flow mark queue cursor path (Ok _) = refusal N flow mark queue cursor path ≡ None
+Checked N flow mark queue cursor path (Err e) = refusal N flow mark queue cursor path ≡ Some e
+
+-- what comes of a call that begins with the flow f: it runs, and solves the network; or it is refused, and nothing changes
+abbrev pub Outcome : Net → (ℕ → ℕ) → List ℕ → List ℕ → List ℕ → List ℕ → List ℕ → List ℕ → List ℕ → List ℕ → List ℕ → List ℕ → Result ℕ Refusal → Type 0
+Outcome N f flow mark queue cursor path flow′ mark′ queue′ cursor′ path′ (Ok r) =
+    (refusal N (length flow) (length mark) (length queue) (length cursor) (length path) ≡ None) × Solved N f (at flow′) (at mark′) r
+Outcome N f flow mark queue cursor path flow′ mark′ queue′ cursor′ path′ (Err e) =
+    (refusal N (length flow) (length mark) (length queue) (length cursor) (length path) ≡ Some e) × (flow′ ≡ flow) × (mark′ ≡ mark) × (queue′ ≡ queue) × (cursor′ ≡ cursor) × (path′ ≡ path)

@@ -8,7 +8,6 @@ ghost use Rattle.network.specs.Residual.{room};
 ghost use Rattle.network.specs.Augment.{Trail, Pushed, Sent, stop};
 ghost use Rattle.flow.specs.Lists.{at};
 ghost use Rattle.flow.specs.Blocking.{Marks, First, Walking, Descended, Least, Filled};
-
 use crate::layers::has_room;
 use crate::network::Network;
 
@@ -31,7 +30,15 @@ fn first_open<G: Network>(network: &G, flow: &[u64], mark: &[u32], v: usize, i: 
 
 // Goes on from the node at `d` of `stack`, by arcs with room to the next layer each, until it comes to the sink, and returns how many arcs
 // lead there. A node that has no such arc left is given up. Where the source is given up, it returns 0.
-fn descend<G: Network>(network: &G, flow: &[u64], mark: &[u32], cursor: &mut [u32], path: &mut [u32], stack: &mut [u32], d: usize) -> usize
+fn descend<G: Network>(
+    network: &G,
+    flow: &[u64],
+    mark: &[u32],
+    cursor: &mut [u32],
+    path: &mut [u32],
+    stack: &mut [u32],
+    d: usize,
+) -> usize
     requires sizes { ⌜ (length (now flow) ≡ net (now network) .arcs) × (net (now network) .nodes ≤ length (now mark)) × (net (now network) .nodes ≤ length (now cursor)) × (net (now network) .nodes ≤ length (now path)) × (net (now network) .nodes ≤ length (now stack)) ⌝ }
     requires marks { ⌜ Marks (net (now network)) (at (now mark)) ⌝ }
     requires midway { ⌜ Walking (net (now network)) (deg (now network)) (inc (now network)) (at (now flow)) (at (now mark)) (at (now cursor)) (at (now path)) (at (now stack)) d ⌝ }
@@ -124,7 +131,14 @@ fn send<G: Network>(network: &G, flow: &mut [u64], _mark: &[u32], path: &[u32], 
 
 // Adds to `flow` a flow that blocks the layers of `mark`. Each path to the sink is sent what its narrowest arc has room for, and the search
 // goes on from the node that the first arc so filled leaves. It costs no more than nodes times arcs.
-pub(crate) fn block<G: Network>(network: &G, flow: &mut [u64], mark: &[u32], cursor: &mut [u32], path: &mut [u32], stack: &mut [u32])
+pub(crate) fn block<G: Network>(
+    network: &G,
+    flow: &mut [u64],
+    mark: &[u32],
+    cursor: &mut [u32],
+    path: &mut [u32],
+    stack: &mut [u32],
+)
     requires sizes { ⌜ (length (now flow) ≡ net (now network) .arcs) × (net (now network) .nodes ≤ length (now mark)) × (net (now network) .nodes ≤ length (now cursor)) × (net (now network) .nodes ≤ length (now path)) × (net (now network) .nodes ≤ length (now stack)) ⌝ }
     requires marks { ⌜ Marks (net (now network)) (at (now mark)) ⌝ }
     requires flows { ⌜ Flow (net (now network)) (at (now flow)) ⌝ }

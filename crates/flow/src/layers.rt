@@ -7,7 +7,6 @@ ghost use lib.Dec.{ltb};
 ghost use Rattle.network.specs.Residual.{room};
 ghost use Rattle.flow.specs.Lists.{at};
 ghost use Rattle.flow.specs.Search.{Bfs, Searched};
-
 use crate::network::Network;
 
 // Whether more can be sent along the residual arc `a`.
@@ -24,7 +23,14 @@ pub(crate) fn has_room<G: Network>(network: &G, flow: &[u64], a: usize) -> bool
 }
 
 // Settles the arcs of the node that stands at `done` in the queue, and returns how many nodes were queued then.
-fn spread<G: Network>(network: &G, flow: &[u64], mark: &mut [u32], queue: &mut [u32], done: usize, count: usize) -> usize
+fn spread<G: Network>(
+    network: &G,
+    flow: &[u64],
+    mark: &mut [u32],
+    queue: &mut [u32],
+    done: usize,
+    count: usize,
+) -> usize
     requires sizes { ⌜ (length (now flow) ≡ net (now network) .arcs) × (net (now network) .nodes ≤ length (now mark)) × (net (now network) .nodes ≤ length (now queue)) ⌝ }
     requires midway { ⌜ Bfs (net (now network)) (at (now flow)) (at (now mark)) (at (now queue)) done count × (done < count) ⌝ }
     ensures { λ r. ⌜ Bfs (net (now (network .entry))) (at (now (flow .entry))) (at (now (mark .exit))) (at (now (queue .exit))) (done + 1) r ⌝ }

@@ -4,9 +4,9 @@ mod block;
 mod layers;
 mod network;
 mod rounds;
-mod work;
+
 pub use network::Network;
 pub use rounds::Refusal;
 pub use rounds::maximize;
 pub use rounds::maximize_from_zero;
-pub use work::Work;
+pub use rounds::reached;

@@ -17,11 +17,15 @@ ghost use Rattle.flow.specs.Lawful.{Lawful};
 /// The laws are what the solver relies on: arcs join nodes, the lists are whole, numbers fit their words, and `initial` is a flow.
 pub trait Network {
     ghost net: { Self → Net };
+
     ghost deg: { Self → ℕ → ℕ };
+
     ghost inc: { Self → ℕ → ℕ → ℕ };
+
     ghost initial: { Self → ℕ → ℕ };
 
     law lawful: { (x : Self) → Lawful (net x) (deg x) (inc x) };
+
     law begins: { (x : Self) → Flow (net x) (initial x) };
 
     fn nodes(&self) -> usize

@@ -27,17 +27,24 @@ descend-d-requires g c κs =
       sizes = (c .pre .sizes .0, c .pre .sizes .1, omega (arith, c .pre .sizes, c .loop-c .kept .cursor), c .pre .sizes .3, omega (arith, c .pre .sizes, length-set (c .args .stack .now) 0 (c .source .result)));
       marks = c .pre .marks;
       midway = walk-start L (c .pre .marks) _ _ _ (put (c .args .stack .now) 0 (c .source .result) (omega (arith, c .pre .sizes, L .sound .source-in)) .0 ∙ c .source .ensures)
-        (cursors-none _ _ _ _ _ _ (λ v h. c .loop-c .inv v (omega (arith, c .pre .sizes, c .loop-c-test .left)))) }
+          (cursors-none _ _ _ _ _ _ (λ v h. c .loop-c .inv v (omega (arith, c .pre .sizes, c .loop-c-test .left))));
+    }
 
 pub loop-d-holds : need.loop-d-holds
 loop-d-holds g c = record { flows = c .pre .flows; only = λ b h l. absurd (omega arith); state = c .descend-d .ensures }
 
 pub descend-d-requires-in-loop-d : need.descend-d-requires-in-loop-d
 descend-d-requires-in-loop-d g c κs = record {
-    sizes = (omega (arith, c .pre .sizes, c .loop-d .kept .flow, c .send .kept .flow), c .pre .sizes .1, omega (arith, c .pre .sizes, c .loop-c .kept .cursor, c .descend-d .kept .cursor, c .loop-d .kept .cursor),
-      omega (arith, c .pre .sizes, c .descend-d .kept .path, c .loop-d .kept .path), omega (arith, c .pre .sizes, length-set (c .args .stack .now) 0 (c .source .result), c .descend-d .kept .stack, c .loop-d .kept .stack));
-    marks = c .pre .marks;
-    midway = sent-walk (g .G·Network·met .lawful (c .args .network .now)) (c .loop-d .inv) (c .loop-d-test .taken) (c .bottleneck-x .ensures) (at (c .send .last .flow)) (c .send .ensures .sent) (c .send .ensures .along) }
+  sizes = (
+    omega (arith, c .pre .sizes, c .loop-d .kept .flow, c .send .kept .flow),
+    c .pre .sizes .1,
+    omega (arith, c .pre .sizes, c .loop-c .kept .cursor, c .descend-d .kept .cursor, c .loop-d .kept .cursor),
+    omega (arith, c .pre .sizes, c .descend-d .kept .path, c .loop-d .kept .path),
+    omega (arith, c .pre .sizes, length-set (c .args .stack .now) 0 (c .source .result), c .descend-d .kept .stack, c .loop-d .kept .stack),
+  );
+  marks = c .pre .marks;
+  midway = sent-walk (g .G·Network·met .lawful (c .args .network .now)) (c .loop-d .inv) (c .loop-d-test .taken) (c .bottleneck-x .ensures) (at (c .send .last .flow)) (c .send .ensures .sent) (c .send .ensures .along);
+}
 
 pub loop-d-less : need.loop-d-less
 loop-d-less g c = sent-slack (g .G·Network·met .lawful (c .args .network .now)) (c .loop-d .inv) (c .loop-d-test .taken) (c .bottleneck-x .ensures) (at (c .send .last .flow)) (c .send .ensures .sent) (c .send .ensures .along)

@@ -11,10 +11,11 @@ loop-i-holds g c = send-start _ _ _ _ _ _ (c .pre .first) (c .pre .trail) (c .pr
 
 pub send-one-requires : need.send-one-requires
 send-one-requires g c κs =
-    let l = c .loop-i-test .taken in
-    ((omega (arith, c .pre .sizes, c .loop-i .kept .flow), c .pre .trail .known (c .loop-i .i) l),
+    let l = c .loop-i-test .taken in (
+      (omega (arith, c .pre .sizes, c .loop-i .kept .flow), c .pre .trail .known (c .loop-i .i) l),
       omega (arith, c .pre .fits (c .loop-i .i) l, c .loop-i .inv .ahead (c .loop-i .i) (omega arith) l),
-      c .loop-i .inv .sent .within)
+      c .loop-i .inv .sent .within,
+    )
 
 pub loop-i-again : need.loop-i-again
 loop-i-again g c = send-more _ _ _ _ _ _ (c .pre .first) (c .pre .trail) _ _ _ (c .loop-i-test .taken) (c .loop-i .inv) (c .send-one .ensures)
@@ -24,4 +25,5 @@ returns g c =
     let e : c .loop-i .i ≡ c .args .d = omega (arith, c .loop-i-test .left, c .loop-i .kept .i-end) in
     record {
       sent = subst (λ i. Sent (g .G·Network .net (c .args .network .now)) (at (c .args .flow .now)) (at (c .loop-i .flow)) (at (c .args .-mark .now)) (c .args .x) (stop (g .G·Network .net (c .args .network .now)) (at (c .args .path .now)) i)) e (c .loop-i .inv .sent);
-      along = λ j h. c .loop-i .inv .behind j (omega arith) }
+      along = λ j h. c .loop-i .inv .behind j (omega arith);
+    }

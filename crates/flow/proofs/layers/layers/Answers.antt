@@ -22,8 +22,8 @@ loop-done-holds g c =
     let L = g .G·Network·met .lawful (c .args .network .now) in
     let e = c .source-s .ensures in
     bfs-start _ _ _ _ _ (L .sound) (λ v h. c .loop-m .inv v (omega (arith, c .pre .sizes, c .loop-m-test .left)))
-      (put-at (c .loop-m .mark) (c .source-s .result) 1 _ e (omega (arith, L .sound .source-in, c .pre .sizes)))
-      (put (c .args .queue .now) 0 (c .source-s .result) (omega (arith, L .sound .source-in, c .pre .sizes)) .0 ∙ e)
+    (put-at (c .loop-m .mark) (c .source-s .result) 1 _ e (omega (arith, L .sound .source-in, c .pre .sizes)))
+    (put (c .args .queue .now) 0 (c .source-s .result) (omega (arith, L .sound .source-in, c .pre .sizes)) .0 ∙ e)
 
 pub add-done : need.add-done
 add-done g c = let h = bfs-hand (c .loop-done .inv) (c .loop-done-test .taken) in omega (arith, h, g .G·Network·met .lawful (c .args .network .now) .few-nodes)

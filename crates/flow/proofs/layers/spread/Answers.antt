@@ -59,20 +59,22 @@ loop-i-again g c =
     let e = c .target-w .ensures in
     let I = hand-open (c .degree-i-end .ensures) (c .loop-i-test .taken) in
     elim (c .if-mark-w-eq0 .came) [
-      then-mark-w-eq0·then-has-room w ↦
-        let h = hand-target L (c .loop-i .inv) (c .degree-i-end .ensures) (c .loop-i-test .taken) e in
-        let space = bfs-space (c .loop-i .inv .bfs) (c .target-w .result) (h .0) (w .if-mark-w-eq0 .taken) in
-        spread-as (w .mark-is) (w .queue-is) (w .count-is)
+      | then-mark-w-eq0·then-has-room w ↦
+          let h = hand-target L (c .loop-i .inv) (c .degree-i-end .ensures) (c .loop-i-test .taken) e in
+          let space = bfs-space (c .loop-i .inv .bfs) (c .target-w .result) (h .0) (w .if-mark-w-eq0 .taken) in
+          spread-as (w .mark-is) (w .queue-is) (w .count-is)
           (spread-push (L .sound) (L .listed) (c .loop-i .inv) _ _ I
-            (ltb-true 0 _ (ap (λ a. ltb 0 (room _ _ a)) (sym (w .leaving .ensures)) ∙ sym (w .has-room .ensures) ∙ w .if-has-room .taken))
-            (ap (at (c .loop-i .mark)) (sym e) ∙ w .if-mark-w-eq0 .taken)
-            (put-at (c .loop-i .mark) (c .target-w .result) _ _ e (omega (arith, h, c .pre .sizes)))
-            (let q = put (c .loop-i .queue) (c .loop-i .count) (c .target-w .result) (omega (arith, space, c .pre .sizes)) in (q .0 ∙ e, q .1)))
-    | else-mark-w-eq0 w ↦ spread-as (w .mark-is) (w .queue-is) (w .count-is) (elim (w .else-mark-w-eq0 .came) [
-        else-mark-w-eq0·by·then-mark-w-eq0·else-has-room u ↦
-          spread-skip (L .sound) (L .listed) (c .loop-i .inv) (λ r. absurd (let z = ltb-false 0 _ (sym (u .has-room .ensures) ∙ u .if-has-room .left) in omega (arith, z, ap (room (g .G·Network .net (c .args .network .now)) (at (c .args .flow .now))) (u .leaving .ensures))))
-      | else-mark-w-eq0·by·else-mark-w-eq0 u ↦
-          spread-old (L .sound) (L .listed) (c .loop-i .inv) I (omega (arith, u .if-mark-w-eq0 .left, ap (at (c .loop-i .mark)) e)) ]) ]
+          (ltb-true 0 _ (ap (λ a. ltb 0 (room _ _ a)) (sym (w .leaving .ensures)) ∙ sym (w .has-room .ensures) ∙ w .if-has-room .taken))
+          (ap (at (c .loop-i .mark)) (sym e) ∙ w .if-mark-w-eq0 .taken)
+          (put-at (c .loop-i .mark) (c .target-w .result) _ _ e (omega (arith, h, c .pre .sizes)))
+          (let q = put (c .loop-i .queue) (c .loop-i .count) (c .target-w .result) (omega (arith, space, c .pre .sizes)) in (q .0 ∙ e, q .1)))
+      | else-mark-w-eq0 w ↦ spread-as (w .mark-is) (w .queue-is) (w .count-is) (elim (w .else-mark-w-eq0 .came) [
+        | else-mark-w-eq0·by·then-mark-w-eq0·else-has-room u ↦
+            spread-skip (L .sound) (L .listed) (c .loop-i .inv) (λ r. absurd (let z = ltb-false 0 _ (sym (u .has-room .ensures) ∙ u .if-has-room .left) in omega (arith, z, ap (room (g .G·Network .net (c .args .network .now)) (at (c .args .flow .now))) (u .leaving .ensures))))
+        | else-mark-w-eq0·by·else-mark-w-eq0 u ↦
+            spread-old (L .sound) (L .listed) (c .loop-i .inv) I (omega (arith, u .if-mark-w-eq0 .left, ap (at (c .loop-i .mark)) e))
+      ])
+    ]
 
 pub returns : need.returns
 returns g c =
