@@ -3,3 +3,4 @@ pub mod First
 pub mod Rows
 pub mod Picture
 pub mod Loading
+pub mod Allocating
