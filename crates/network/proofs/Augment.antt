@@ -95,9 +95,10 @@ trail-from N f mark path d e t (suc i) h =
 module _ (N : Net) (f₀ mark path : ℕ → ℕ) (x d : ℕ) (first : mark (N .source) ≡ 1) (t : Trail N f₀ mark path d) where
   pub send-start : ((k : ℕ) → k < N .arcs → f₀ k ≤ N .cap k) → Sending N f₀ f₀ mark path x d 0
   send-start w = record {
-      sent = record { within = w; balance = λ v. omega arith; falls = λ b h l. omega arith; only = λ b h l. absurd (omega arith) };
-      behind = λ j h. absurd (omega arith);
-      ahead = λ j h l. refl }
+    sent = record { within = w; balance = λ v. omega arith; falls = λ b h l. omega arith; only = λ b h l. absurd (omega arith) };
+    behind = λ j h. absurd (omega arith);
+    ahead = λ j h l. refl;
+  }
 
   -- the arcs of a trail are of different arcs of the network
   other : (i j : ℕ) → i < d → j < d → (i ≡ j → ⊥) → path j / 2 ≡ path i / 2 → ⊥
@@ -113,17 +114,23 @@ module _ (N : Net) (f₀ mark path : ℕ → ℕ) (x d : ℕ) (first : mark (N .
           within = p .within (s .sent .within);
           balance = λ v. omega (arith, s .sent .balance v, p .balance v, ap (λ u. when (eqb v u) x) (t .joined i h));
           falls = λ b hb lb. elim (cases-eq (b / 2) (path i / 2)) [
-            inl e ↦ let q = one-onward N mark (path i) b e la lb in omega (arith, ap (room N f′) q, ap (room N f) q, p .fell, s .sent .falls b hb lb)
-          | inr n ↦ omega (arith, p .rest b n, s .sent .falls b hb lb) ];
+            | inl e ↦ let q = one-onward N mark (path i) b e la lb in omega (arith, ap (room N f′) q, ap (room N f) q, p .fell, s .sent .falls b hb lb)
+            | inr n ↦ omega (arith, p .rest b n, s .sent .falls b hb lb)
+          ];
           only = λ b hb lt. elim (cases-eq (b / 2) (path i / 2)) [
-            inl e ↦ elim (cases-eq b (path i)) [
-                inl q ↦ subst (λ y. Onward N mark y) (sym q) la
-              | inr n ↦ s .sent .only b hb (omega (arith, p .rose b e n)) ]
-          | inr n ↦ s .sent .only b hb (omega (arith, p .rest b n)) ] });
+            | inl e ↦ elim (cases-eq b (path i)) [
+              | inl q ↦ subst (λ y. Onward N mark y) (sym q) la
+              | inr n ↦ s .sent .only b hb (omega (arith, p .rose b e n))
+            ]
+            | inr n ↦ s .sent .only b hb (omega (arith, p .rest b n))
+          ];
+        });
         behind = λ j hj. elim (cases-eq j i) [
-          inl e ↦ omega (arith, ap (λ k. room N f′ (path k)) e, ap (λ k. room N f₀ (path k)) e, p .fell, s .ahead i (omega arith) h)
-        | inr n ↦ omega (arith, p .rest (path j) (other i j h (omega arith) (λ e. n (sym e))), s .behind j (omega arith)) ];
-        ahead = λ j hj l. p .rest (path j) (other i j h l (λ e. omega arith)) ∙ s .ahead j (omega arith) l }
+          | inl e ↦ omega (arith, ap (λ k. room N f′ (path k)) e, ap (λ k. room N f₀ (path k)) e, p .fell, s .ahead i (omega arith) h)
+          | inr n ↦ omega (arith, p .rest (path j) (other i j h (omega arith) (λ e. n (sym e))), s .behind j (omega arith))
+        ];
+        ahead = λ j hj l. p .rest (path j) (other i j h l (λ e. omega arith)) ∙ s .ahead j (omega arith) l;
+      }
 
 -- what was sent to the sink is a flow again
 pub sent-flow : (N : Net) (f₀ f mark : ℕ → ℕ) (x : ℕ) → Flow N f₀ → Sent N f₀ f mark x (N .sink) → Flow N f

@@ -9,3 +9,5 @@ pub mod Reach
 pub mod Record
 pub mod Outcome
 pub mod Agreement
+pub mod Listing
+pub mod Paths

@@ -6,7 +6,6 @@ use mathlib.Core.Bool.{Bool, true, false}
 use Prim.Native.Nat.{ℕ, _-_, _<_, _≤_}
 use native.Mathlib.Omega.{arith}
 use lib.Dec.{ltb}
-use Rattle.std.specs.Orderings.{Decides}
 use Rattle.std.proofs.shelf.Tests.{false≢true}
 use Rattle.network.specs.Sums.{Sum, Agree}
 use Rattle.network.specs.Flow.{Flow, value, Maximum}
@@ -17,16 +16,10 @@ use Rattle.network.proofs.Duality.{zero-flow}
 use Rattle.table.specs.Table.{Situation, Table, SameTable, zeros, Lawful, Covers, owed, Shortage}
 use Rattle.table.specs.Drawn.{place, net-of, flow-of, table-of}
 use Rattle.table.specs.Record.{marks-of}
-use Rattle.table.specs.Outcome.{Start, Granted, Short}
+use Rattle.table.specs.Outcome.{Start, Begins, Granted, Short}
 use Rattle.table.proofs.Tables.{lawful-flow, lawful-same, covers-same, flow-same, flow-again, table-again, value-owed, value-supply}
 use Rattle.table.proofs.Maximum.{maximum-shortage, maximum-covers, covers-maximum}
 use Rattle.table.proofs.Record.{reached-explains}
-
--- the flow f that the rounds start from: that of p if the test says that p is lawful, else none
-pub record Begins (s : Situation) (p : Table) (f : ℕ → ℕ) (lawful : Bool) : Type 0 where
-  pub test : Decides lawful (Lawful s p)
-  pub loaded : lawful ≡ true → Agree 2128 f (flow-of s p)
-  pub blank : lawful ≡ false → Agree 2128 f (λ _. 0)
 
 module _ (s : Situation) where
   pub begin-flow : (p : Table) (f : ℕ → ℕ) (b : Bool) → Begins s p f b → Flow (net-of s) f

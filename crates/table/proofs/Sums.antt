@@ -3,7 +3,7 @@
 use mathlib.Core.Path.{_≡_, refl, sym, ap, _∙_}
 use mathlib.Core.Bool.{Bool, true, false}
 use mathlib.Core.Logic.{_⊎_, inl, inr}
-use Prim.Native.Nat.{ℕ, zero, suc, _+_, _*_, _<_, _≤_}
+use Prim.Native.Nat.{ℕ, zero, suc, _+_, _-_, _*_, _<_, _≤_}
 use native.Mathlib.Omega.{arith}
 use native.Mathlib.Nat.{add-zero, add-suc, suc-mul, zero-mul}
 use Rattle.std.proofs.shelf.Tests.{cases-eq}
@@ -20,6 +20,10 @@ pub sum-join : (m n : ℕ) (g : ℕ → ℕ) → Sum (m + n) g ≡ Sum m g + Sum
 unfolding Sum
 sum-join m zero g = rw (add-zero m) (omega arith)
 sum-join m (suc n) g = rw add-suc (omega (arith, sum-join m n g))
+
+-- fewer terms come to no more
+pub sum-front : (m n : ℕ) (g : ℕ → ℕ) → m ≤ n → Sum m g ≤ Sum n g
+sum-front m n g h = let e : m + (n - m) ≡ n = omega arith in omega (arith, sum-join m (n - m) g, ap (λ k. Sum k g) e)
 
 -- m rows of n places
 pub sum-grid : (m n : ℕ) (g : ℕ → ℕ) → Sum (m * n) g ≡ Sum m (λ i. Sum n (λ j. g (i * n + j)))

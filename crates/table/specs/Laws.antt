@@ -5,11 +5,12 @@ use mathlib.Core.Bool.{true}
 use mathlib.Core.Logic.{_↔_}
 use Prim.Native.Nat.{ℕ, _-_, _*_, _<_, _≤_}
 use lib.Dec.{ltb}
-use Rattle.network.specs.Sums.{Agree}
+use Rattle.network.specs.Sums.{Sum, Agree}
 use Rattle.network.specs.Flow.{Flow, value, Maximum}
 use Rattle.network.specs.Residual.{Distances, from, to, room}
 use Rattle.table.specs.Table.{Situation, Table, SameTable, Lawful, Covers, pledged, owed, uncovered, Shortage}
 use Rattle.table.specs.Drawn.{net-of, arc, node, capOf, drawnNode, drawnNodes, flow-of, table-of}
+use Rattle.table.specs.Paths.{share}
 use Rattle.table.specs.Record.{Marks, Explains, marks-of}
 use Rattle.table.specs.Outcome.{Chain, Granted, Short}
 use Rattle.table.specs.Agreement.{Agrees}
@@ -27,6 +28,10 @@ FlowsAreTables = (s : Situation) (f : ℕ → ℕ) → Flow (net-of s) f
 -- a table is lawful exactly if it sends along each arc no more than that can carry
 abbrev pub LawfulWithin : Type 0
 LawfulWithin = (s : Situation) (p : Table) → Lawful s p ↔ ((k : ℕ) → k < 2128 → flow-of s p k ≤ capOf s (arc k))
+
+-- a table's flow is the sum of its pledges' paths
+abbrev pub PathsAddUp : Type 0
+PathsAddUp = (s : Situation) (p : Table) (k : ℕ) → k < 2128 → flow-of s p k ≡ Sum 64 (λ l. Sum 16 (λ e. share s l e (p l e) k))
 
 -- a lawful table covers exactly if it pledges all that is owed
 abbrev pub CoversAll : Type 0

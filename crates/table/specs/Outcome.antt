@@ -1,6 +1,10 @@
 -- To believe: what an allocation may answer.
 
+use mathlib.Core.Path.{_≡_}
+use mathlib.Core.Bool.{Bool, true, false}
 use Prim.Native.Nat.{ℕ}
+use Rattle.std.specs.Orderings.{Decides}
+use Rattle.network.specs.Sums.{Agree}
 use Rattle.network.specs.Round.{Rounds}
 use Rattle.table.specs.Table.{Situation, Table, SameTable, zeros, Lawful, Covers, Shortage}
 use Rattle.table.specs.Drawn.{net-of, flow-of}
@@ -14,6 +18,12 @@ Chain s k p q = Rounds (net-of s) k (flow-of s p) (flow-of s q)
 pub record Start (s : Situation) (p first : Table) : Type 0 where
   pub same : Lawful s p → SameTable first p
   pub blank : (Lawful s p → ⊥) → SameTable first zeros
+
+-- the flow f that the rounds start from, where a test says whether p is lawful: that of p if it is, else none
+pub record Begins (s : Situation) (p : Table) (f : ℕ → ℕ) (lawful : Bool) : Type 0 where
+  pub test : Decides lawful (Lawful s p)
+  pub loaded : lawful ≡ true → Agree 2128 f (flow-of s p)
+  pub blank : lawful ≡ false → Agree 2128 f (λ _. 0)
 
 -- granted with k rounds, p being the table before and q the one after
 pub record Granted (s : Situation) (k : ℕ) (p q : Table) : Type 0 where

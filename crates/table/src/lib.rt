@@ -1,7 +1,7 @@
 // Pledge tables as flows of a network: definitions in specs/, and the laws about them as contracts.
 // Nothing here runs; the functions are there so that the check asks for the proof of each law.
 
-ghost use Rattle.table.specs.Laws.{TablesAreFlows, FlowsAreTables, LawfulWithin, CoversAll, CoveredAtMaximum, LeastShortage, ReachedExplains, RecordBinds, RoomIsDrawn, RoundsWithinDrawn, AgreementKeeps};
+ghost use Rattle.table.specs.Laws.{TablesAreFlows, FlowsAreTables, LawfulWithin, PathsAddUp, CoversAll, CoveredAtMaximum, LeastShortage, ReachedExplains, RecordBinds, RoomIsDrawn, RoundsWithinDrawn, AgreementKeeps};
 
 pub fn tables_are_flows() -> u8
     ensures { λ _. ⌜ TablesAreFlows ⌝ }
@@ -17,6 +17,12 @@ pub fn flows_are_tables() -> u8
 
 pub fn lawful_within() -> u8
     ensures { λ _. ⌜ LawfulWithin ⌝ }
+{
+    0
+}
+
+pub fn paths_add_up() -> u8
+    ensures { λ _. ⌜ PathsAddUp ⌝ }
 {
     0
 }
