@@ -18,7 +18,7 @@ use Rattle.cause.specs.declared.Cause.{Cause}
 use Rattle.cause.specs.declared.Cause.the-variants.{SlipStale}
 use Rattle.binder.specs.Meaning.{Meaning}
 use Rattle.calls.specs.declared.Instruction.{Instruction}
-use Rattle.calls.specs.declared.Record.{Record}
+use Rattle.cover.specs.declared.record.Record.{Record}
 use Rattle.calls.specs.State.{State, table}
 use Rattle.calls.specs.Call.{Outcome, Numbers, cause, own, first}
 use Rattle.calls.specs.Call.Call.{allocate, settle, abandon}

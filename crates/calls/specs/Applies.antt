@@ -20,7 +20,7 @@ use Rattle.curve.specs.declared.lot.Lot.{Lot}
 use Rattle.curve.specs.declared.lot.Terms.{Terms}
 use Rattle.calls.specs.declared.Exposure.{Exposure}
 use Rattle.calls.specs.declared.Instruction.{Instruction}
-use Rattle.calls.specs.declared.Record.{Record}
+use Rattle.cover.specs.declared.record.Record.{Record}
 use Rattle.calls.specs.State.{State, table, lot-at, exposure-at}
 use Rattle.calls.specs.Call.{Call, Numbers, held-lots, open-exposures, curve-of}
 use Rattle.calls.specs.Call.Call.{add, withdraw, open-exposure, close, begin, allocate, settle, abandon}

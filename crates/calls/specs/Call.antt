@@ -16,7 +16,7 @@ use Rattle.curve.specs.Card.{nth-points}
 use Rattle.curve.specs.declared.card.Card.{Card}
 use Rattle.curve.specs.declared.lot.Terms.{Terms}
 use Rattle.calls.specs.declared.Instruction.{Instruction}
-use Rattle.calls.specs.declared.Record.{Record}
+use Rattle.cover.specs.declared.record.Record.{Record}
 use Rattle.calls.specs.State.{State, table, held-at, open-at}
 
 -- a slip's two numbers: of the book and of the run

@@ -11,14 +11,15 @@ use Rattle.table.specs.Table.{Table, Lawful, Covers, uncovered}
 use Rattle.table.specs.Record.{Explains}
 use Rattle.table.specs.Outcome.{Start, Chain}
 use Rattle.calls.specs.declared.Instruction.{Instruction}
-use Rattle.calls.specs.declared.Record.{Record}
+use Rattle.cover.specs.declared.record.Record.{Record}
 use Rattle.calls.specs.State.{State, opening, table}
 use Rattle.calls.specs.Situation.{situation}
 use Rattle.calls.specs.Instructions.{amounts}
 use Rattle.calls.specs.Call.{Call, Outcome, Numbers, given-out}
 use Rattle.calls.specs.Call.Call.{allocate, settle, abandon}
 use Rattle.calls.specs.Call.Outcome.{short, allocated, settled, abandoned}
-use Rattle.calls.specs.Step.{Step, marks}
+use Rattle.calls.specs.Step.{Step}
+use Rattle.cover.specs.Answer.{noted}
 
 -- the states that a book comes to by calls one after the other, granted or refused, from the opening on, with the instructions
 -- given out so far. One binder, of meaning m, serves all calls
@@ -48,7 +49,7 @@ pub record Least (m : Meaning) (s : State) (x : ℕ) (note : Record) : Type 0 wh
   pub some : (p : Table) × Lawful (situation m s) p × (uncovered (situation m s) p ≡ x)
   pub every : (p : Table) → Lawful (situation m s) p → x ≤ uncovered (situation m s) p
   pub above : 0 < x
-  pub explains : Explains (situation m s) (marks note) x
+  pub explains : Explains (situation m s) (noted note) x
 
 -- allocating with the open run's slip: granted exactly if some lawful table covers, and else the refusal states the least shortage
 pub record Allocates (m : Meaning) (s : State) (note : Record) (o : Outcome) (t : State) : Type 0 where

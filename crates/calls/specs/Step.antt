@@ -4,20 +4,19 @@ use mathlib.Core.Path.{_≡_}
 use mathlib.Core.Bool.{Bool, true, false}
 use mathlib.Core.List.{List}
 use mathlib.Core.Logic.{_⊎_}
-use Prim.Native.Nat.{ℕ, zero, suc, _+_, _*_, _/_, _%_, _^_}
-use lib.Dec.{eqb}
-use lib.ListN.{length, getD, set}
+use Prim.Native.Nat.{ℕ, zero, suc, _+_, _*_}
+use lib.ListN.{length, set}
 use Rattle.std.specs.declared.option.Option.{Option}
 use Rattle.std.specs.declared.option.Option.the-variants.{None, Some}
 use Rattle.cause.specs.declared.Cause.{Cause}
 use Rattle.binder.specs.Meaning.{Meaning}
-use Rattle.table.specs.Record.{Marks}
+use Rattle.cover.specs.Answer.{noted}
 use Rattle.table.specs.Outcome.{Granted as Covered, Short}
 use Rattle.curve.specs.Points.{Haircut}
 use Rattle.curve.specs.Lot.{lot-of, collateral}
 use Rattle.curve.specs.declared.lot.Lot.{Lot}
 use Rattle.calls.specs.declared.Exposure.{Exposure}
-use Rattle.calls.specs.declared.Record.{Record}
+use Rattle.cover.specs.declared.record.Record.{Record}
 use Rattle.calls.specs.State.{State, table}
 use Rattle.calls.specs.Situation.{situation}
 use Rattle.calls.specs.Instructions.{changes, closings, written}
@@ -43,13 +42,6 @@ unfoldable pub zeroed : List ℕ → ℕ → ℕ → List ℕ
 zeroed t e zero = t
 zeroed t e (suc n) = set (zeroed t e n) (n * 16 + e) 0
 
--- bit p of a word, and the marks of a record
-abbrev pub marked : ℕ → ℕ → Bool
-marked w p = eqb (w / 2 ^ p % 2) 1
-
-abbrev pub marks : Record → Marks
-marks r = record { exposures = marked (r .exposures); lots = marked (r .lots); issuers = λ e t. marked (getD (r .issuers) e 0) t }
-
 -- an allocation is served: a table that covers, reached by so many rounds from where it started
 pub record Serves (m : Meaning) (s : State) (note : Record) (o : Outcome) (t : State) : Type 0 where
   pub rounds : ℕ
@@ -65,7 +57,7 @@ pub record Denies (m : Meaning) (s : State) (o : Outcome) (t : State) : Type 0 w
   pub note : Record
   pub answer : o ≡ short shortage note
   pub same : t ≡ s
-  pub denied : Short (situation m s) shortage (marks note)
+  pub denied : Short (situation m s) shortage (noted note)
 
 -- what a call that no cause is against answers, and the state after it
 abbrev pub Grants : Meaning → Call → State → Outcome → State → Type 0

@@ -18,15 +18,6 @@ pub struct Instruction {
     pub amount: i64,
 }
 
-// The marks of a shortage: bit p of a word stands for place p. An issuer is marked at its smallest
-// held lot place.
-#[derive(Clone, Copy)]
-pub struct Record {
-    pub exposures: u16,
-    pub lots: u64,
-    pub issuers: [u64; 16],
-}
-
 // A call is refused for the cause with the smallest number of those that apply to it, and for no other;
 // where none applies it is not refused. (That no lawful table covers is said by what allocating grants.)
 pub fn smallest_cause_is_given() -> u8

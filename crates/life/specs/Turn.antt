@@ -10,7 +10,7 @@ use Rattle.std.specs.declared.option.Option.the-variants.{None, Some}
 use Rattle.binder.specs.Meaning.{Meaning}
 use Rattle.curve.specs.declared.card.Card.{Card}
 use Rattle.calls.specs.declared.Instruction.{Instruction}
-use Rattle.calls.specs.declared.Record.{Record}
+use Rattle.cover.specs.declared.record.Record.{Record}
 use Rattle.calls.specs.State.{State}
 use Rattle.calls.specs.Call.{Call, Numbers, given-out}
 use Rattle.calls.specs.Call.Call.{add, withdraw, open-exposure, close, begin, allocate, settle, abandon}

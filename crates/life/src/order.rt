@@ -1,7 +1,7 @@
 // What a session is told to do, and what comes of it.
 
-use calls::Record;
 use cause::Cause;
+use cover::Record;
 use curve::lot::Terms;
 
 #[derive(Clone, Copy)]
