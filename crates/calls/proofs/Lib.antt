@@ -2,5 +2,6 @@ mod Causes
 mod Lawful
 mod Zeroed
 mod Tallies
+mod Flows
 mod Allocations
 mod Lives
