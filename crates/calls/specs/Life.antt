@@ -6,6 +6,7 @@ use mathlib.Core.List.{List, [], _++_}
 use mathlib.Core.Logic.{_↔_}
 use Prim.Native.Nat.{ℕ, _+_, _<_, _≤_}
 use lib.IntN.{pos}
+use lib.ListN.{length}
 use Rattle.binder.specs.Meaning.{Meaning}
 use Rattle.network.specs.Flow.{capacity, Maximum, Minimum}
 use Rattle.table.specs.Table.{Table, Lawful, Covers, owed, uncovered}
@@ -63,8 +64,16 @@ pub record Allocates (m : Meaning) (s : State) (note : Record) (o : Outcome) (t 
   pub held : (k : ℕ) → o ≡ allocated k note → Held m s k t
   pub least : (x : ℕ) (r : Record) → o ≡ short x r → Least m s x r × (t ≡ s)
 
+-- 64 lot places, 16 exposure places, and 1,024 places in each pledge table
+pub record Sizes (s : State) : Type 0 where
+  pub lots : length (s .lots) ≡ 64
+  pub exposures : length (s .exposures) ≡ 16
+  pub standing : length (s .standing) ≡ 1024
+  pub working : length (s .working) ≡ 1024
+
 -- what holds at every moment of a life
 pub record Sound (m : Meaning) (s : State) (given : List Instruction) : Type 0 where
+  pub sizes : Sizes s
   -- both tables are lawful
   pub standing : Lawful (situation m s) (table (s .standing))
   pub working : Lawful (situation m s) (table (s .working))
