@@ -20,11 +20,13 @@ use Rattle.binder.specs.Meaning.{Meaning}
 use Rattle.calls.specs.declared.Instruction.{Instruction}
 use Rattle.cover.specs.declared.record.Record.{Record}
 use Rattle.calls.specs.State.{State, table}
+use Rattle.calls.specs.Situation.{situation}
 use Rattle.calls.specs.Call.{Outcome, Numbers, cause, own, first}
 use Rattle.calls.specs.Call.Call.{allocate, settle, abandon}
 use Rattle.calls.specs.Call.Outcome.{short, allocated, settled, abandoned}
 use Rattle.calls.specs.Step.{Step, Decided, Serves, Denies}
 use Rattle.calls.specs.Life.{slip-of-run, Coverable, Allocates}
+use Rattle.calls.proofs.Flows.{covering-maximum, shortage-cut}
 
 -- no answer is of two kinds
 one-answer : (o : Outcome) (k x : ℕ) (note r : Record) → o ≡ allocated k note → o ≡ short x r → ⊥
@@ -39,7 +41,7 @@ module _ (m : Meaning) (s : State) (note : Record) (o : Outcome) (t : State) whe
         refused = ((λ none. absurd (none some)), (λ at. absurd (one-answer o (v .rounds) (at .0) note (at .1) (v .answer) (at .2))));
         held = λ k is.
             let same : v .rounds ≡ k = cc (is, v .answer) in
-            rw (v .after, ← same) (record { lawful = v .covered .lawful; covers = v .covered .covers; first = v .covered .first; starts = v .covered .starts; chain = v .covered .chain });
+            rw (v .after, ← same) (record { lawful = v .covered .lawful; covers = v .covered .covers; maximum = covering-maximum (situation m s) (table (v .pledges)) (v .covered .lawful) (v .covered .covers); first = v .covered .first; starts = v .covered .starts; chain = v .covered .chain });
         least = λ x r is. absurd (one-answer o (v .rounds) x note r (v .answer) is);
       }
 
@@ -58,6 +60,7 @@ module _ (m : Meaning) (s : State) (note : Record) (o : Outcome) (t : State) whe
                 every = v .denied .shortage .least;
                 above = v .denied .explains .above;
                 explains = v .denied .explains;
+                cut = shortage-cut (situation m s) (v .shortage) (v .denied .shortage);
               }),
               v .same,
             );

@@ -36,6 +36,11 @@ use Rattle.calls.specs.Applies.{AmountInRange, Own, Applies}
 use Rattle.calls.specs.Applies.Applies.{add-outside, withdraw-outside, open-outside, close-outside, add-in-run, withdraw-in-run, open-in-run, close-in-run, begin-in-run, add-taken, open-taken, withdraw-empty, close-empty, add-field, open-amount, add-past, open-unknown, withdraw-pledged, begin-spent, allocate-stale, settle-stale, abandon-stale, settle-short, close-short}
 use Rattle.calls.specs.Laws.{Smallest-cause}
 
+-- where a chain gives none, its first condition did not hold
+pub passed : (b : Bool) (k : Cause) (rest : Option Cause) → first b k rest ≡ None → (b ≡ false) × (rest ≡ None)
+passed true k rest h = (cc, cc)
+passed false k rest h = (refl, h)
+
 -- a cause by its number
 named : ℕ → Cause
 named n = getD (PageShape ∷ PageShape ∷ PageMonth ∷ PageHaircut ∷ BufferShort ∷ TextLong ∷ ByteUnexpected ∷ NumberLarge ∷ BracketDeep ∷ StepsMany ∷ RangePassed ∷ ExclusionFull ∷ SwitchLarge ∷ PlaceOutside ∷ RunOpen ∷ PlaceTaken ∷ PlaceEmpty ∷ FieldOutside ∷ PastCurve ∷ ScheduleUnknown ∷ LotPledged ∷ RunsSpent ∷ SlipStale ∷ ListShort ∷ NotCovered ∷ []) n PageShape

@@ -1,6 +1,9 @@
-mod Causes
-mod Lawful
-mod Zeroed
-mod Tallies
-mod Allocations
-mod Lives
+pub mod Causes
+pub mod Sizes
+pub mod Histories
+pub mod Lawful
+pub mod Zeroed
+pub mod Tallies
+pub mod Flows
+pub mod Allocations
+pub mod Lives

@@ -9,7 +9,7 @@
 -- the standing one, those of a closing to minus what it zeroes, and no other call changes the standing table or gives any out.
 
 use mathlib.Core.Path.{_≡_, refl, sym, ap, _∙_}
-use mathlib.Core.Bool.{Bool, true, false, not}
+use mathlib.Core.Bool.{false, not}
 use mathlib.Core.List.{List, _++_, append-nil}
 use mathlib.Core.Logic.{inl, inr}
 use Prim.Native.Nat.{ℕ, _+_, _*_, _<_}
@@ -34,12 +34,14 @@ use Rattle.calls.specs.declared.Exposure.{Exposure}
 use Rattle.calls.specs.State.{State, opening, table, held-at, open-at}
 use Rattle.calls.specs.Situation.{situation}
 use Rattle.calls.specs.Instructions.{changes, closings, amounts}
-use Rattle.calls.specs.Call.{Call, Outcome, cause, first, own, given-out, pledged-at}
+use Rattle.calls.specs.Call.{Call, Outcome, cause, own, given-out, pledged-at}
 use Rattle.calls.specs.Call.Call.{add, withdraw, open-exposure, close, begin, allocate, settle, abandon}
 use Rattle.calls.specs.Step.{Decided, Grants, with-lot, with-exposure, zeroed}
 use Rattle.calls.specs.Life.{Life}
 use Rattle.calls.specs.Life.Life.{opened, next}
 use Rattle.calls.specs.Laws.{Every-life-sound}
+use Rattle.calls.proofs.Causes.{passed}
+use Rattle.calls.proofs.Sizes.{sizes}
 use Rattle.calls.proofs.Lawful.{lessened, none-above}
 use Rattle.calls.proofs.Zeroed.{zeroed-there, zeroed-other, zeros-at}
 use Rattle.calls.proofs.Tallies.{take-written, amounts-++, changes-tally, closings-tally}
@@ -54,11 +56,6 @@ record Kept (m : Meaning) (s : State) (given : List Instruction) : Type 0 where
   working : Lawful (situation m s) (table (s .working))
   at-rest : s .in-run ≡ false → s .working ≡ s .standing
   tallies : Tallied given (s .standing)
-
--- a cause that comes first, where none applies
-passed : (b : Bool) (k : Cause) (rest : Option Cause) → first b k rest ≡ None → (b ≡ false) × (rest ≡ None)
-passed true k rest h = (cc, cc)
-passed false k rest h = (refl, h)
 
 -- a table that is lawful in a state
 module _ (m : Meaning) (s : State) (t : List ℕ) (w : Lawful (situation m s) (table t)) where
@@ -208,6 +205,7 @@ pub every-life-sound : Every-life-sound
 every-life-sound m number s given life =
     let k = kept m number s given life in
     record {
+      sizes = sizes m number s given life;
       standing = k .standing;
       working = k .working;
       allocates = λ run note o t step. allocates m s note o t run step;

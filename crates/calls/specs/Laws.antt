@@ -13,6 +13,7 @@ use Rattle.calls.specs.State.{State}
 use Rattle.calls.specs.Call.{Call, cause}
 use Rattle.calls.specs.Applies.{Applies}
 use Rattle.calls.specs.Life.{Life, Sound}
+use Rattle.calls.specs.History.{Told}
 
 -- The cause of a call is, of those that apply to it, the one with the smallest number; and a call has none exactly if none applies.
 abbrev pub Smallest-cause : Type 0
@@ -23,3 +24,7 @@ Smallest-cause = (m : Meaning) (s : State) (c : Call)
 -- every moment of every life, under any binder
 abbrev pub Every-life-sound : Type 0
 Every-life-sound = (m : Meaning) (number : ℕ) (s : State) (given : List Instruction) → Life m number s given → Sound m s given
+
+-- which lots are held, which exposures are open and whether a run is open follows from the granted calls alone
+abbrev pub Told-by-calls : Type 0
+Told-by-calls = (m : Meaning) (number : ℕ) (s : State) (given : List Instruction) (life : Life m number s given) → Told life

@@ -5,4 +5,5 @@ pub mod Call
 pub mod Applies
 pub mod Step
 pub mod Life
+pub mod History
 pub mod Laws

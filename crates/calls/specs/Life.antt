@@ -1,13 +1,16 @@
 -- To believe: what a life of a book is, and what holds at every moment of it.
 
 use mathlib.Core.Path.{_≡_}
-use mathlib.Core.Bool.{true}
+use mathlib.Core.Bool.{Bool, true}
 use mathlib.Core.List.{List, [], _++_}
 use mathlib.Core.Logic.{_↔_}
-use Prim.Native.Nat.{ℕ, _<_, _≤_}
+use Prim.Native.Nat.{ℕ, _+_, _<_, _≤_}
 use lib.IntN.{pos}
+use lib.ListN.{length}
 use Rattle.binder.specs.Meaning.{Meaning}
-use Rattle.table.specs.Table.{Table, Lawful, Covers, uncovered}
+use Rattle.network.specs.Flow.{capacity, Maximum, Minimum}
+use Rattle.table.specs.Table.{Table, Lawful, Covers, owed, uncovered}
+use Rattle.table.specs.Drawn.{net-of, flow-of}
 use Rattle.table.specs.Record.{Explains}
 use Rattle.table.specs.Outcome.{Start, Chain}
 use Rattle.calls.specs.declared.Instruction.{Instruction}
@@ -36,20 +39,24 @@ slip-of-run s = record { book = s .number; run = s .run }
 abbrev pub Coverable : Meaning → State → Type 0
 Coverable m s = (p : Table) × Lawful (situation m s) p × Covers (situation m s) p
 
--- an allocation that is granted: the run holds a lawful table that covers, reached by rounds from where it started
+-- an allocation that is granted: the run holds a lawful table that covers. It is a maximum flow of the drawn network, reached by
+-- rounds from where they started
 pub record Held (m : Meaning) (s : State) (rounds : ℕ) (t : State) : Type 0 where
   pub lawful : Lawful (situation m t) (table (t .working))
   pub covers : Covers (situation m t) (table (t .working))
+  pub maximum : Maximum (net-of (situation m s)) (flow-of (situation m s) (table (t .working)))
   pub first : Table
   pub starts : Start (situation m s) (table (s .working)) first
   pub chain : Chain (situation m s) rounds first (table (t .working))
 
--- an allocation that is refused: x is the least that any lawful table leaves uncovered, and the record explains it
+-- an allocation that is refused: x is the least that any lawful table leaves uncovered, and the record explains it. A minimum cut of
+-- the drawn network carries the rest of what is owed
 pub record Least (m : Meaning) (s : State) (x : ℕ) (note : Record) : Type 0 where
   pub some : (p : Table) × Lawful (situation m s) p × (uncovered (situation m s) p ≡ x)
   pub every : (p : Table) → Lawful (situation m s) p → x ≤ uncovered (situation m s) p
   pub above : 0 < x
   pub explains : Explains (situation m s) (noted note) x
+  pub cut : (S : ℕ → Bool) × Minimum (net-of (situation m s)) S × (capacity (net-of (situation m s)) S + x ≡ owed (situation m s))
 
 -- allocating with the open run's slip: granted exactly if some lawful table covers, and else the refusal states the least shortage
 pub record Allocates (m : Meaning) (s : State) (note : Record) (o : Outcome) (t : State) : Type 0 where
@@ -58,8 +65,16 @@ pub record Allocates (m : Meaning) (s : State) (note : Record) (o : Outcome) (t 
   pub held : (k : ℕ) → o ≡ allocated k note → Held m s k t
   pub least : (x : ℕ) (r : Record) → o ≡ short x r → Least m s x r × (t ≡ s)
 
+-- 64 lot places, 16 exposure places, and 1,024 places in each pledge table
+pub record Sizes (s : State) : Type 0 where
+  pub lots : length (s .lots) ≡ 64
+  pub exposures : length (s .exposures) ≡ 16
+  pub standing : length (s .standing) ≡ 1024
+  pub working : length (s .working) ≡ 1024
+
 -- what holds at every moment of a life
 pub record Sound (m : Meaning) (s : State) (given : List Instruction) : Type 0 where
+  pub sizes : Sizes s
   -- both tables are lawful
   pub standing : Lawful (situation m s) (table (s .standing))
   pub working : Lawful (situation m s) (table (s .working))
