@@ -72,7 +72,7 @@ put-next a old x d h = rw (drop-cons old (length a) d h, set-at a (getD old (len
 -- one more place, with an instruction or without
 module _ (a old list : List Instruction) (n : ℕ) (x : Instruction) (count : n ≡ length a) (so-far : list ≡ written a old) where
   more : (same : Bool) → (same ≡ false → n < length old)
-    → (n + length (cond same [] (x ∷ [])) ≡ length (a ++ cond same [] (x ∷ []))) × (cond same list (set list n x) ≡ written (a ++ cond same [] (x ∷ [])) old)
+      → (n + length (cond same [] (x ∷ [])) ≡ length (a ++ cond same [] (x ∷ []))) × (cond same list (set list n x) ≡ written (a ++ cond same [] (x ∷ [])) old)
   more true h = (rw (append-nil a) (omega arith), rw (append-nil a) so-far)
   more false h =
       let long : length (a ++ (x ∷ [])) ≡ length a + 1 = length-append a (x ∷ []) in
@@ -98,8 +98,8 @@ module _ (f : ℕ → List Instruction) (i n : ℕ) (old list : List Instruction
   has-room d = omega (arith, room-here f i n below (ap length is ∙ move-one l e a b d), room)
 
   pub turn : (k : ℕ) → k ≡ length (collected f i) → list ≡ written (collected f i) old
-    → (k + length (move l e a b) ≡ length (collected f (i + 1)))
-    × (cond (eqb b a) list (set list k (moves l e a b)) ≡ written (collected f (i + 1)) old)
+      → (k + length (move l e a b) ≡ length (collected f (i + 1)))
+      × (cond (eqb b a) list (set list k (moves l e a b)) ≡ written (collected f (i + 1)) old)
   turn k count so-far =
       let step : collected f (i + 1) ≡ collected f i ++ move l e a b = collected-more f i ∙ ap (λ xs. collected f i ++ xs) is in
       let m = more (collected f i) old list k (moves l e a b) count so-far (eqb b a) (λ w. rw count (has-room (differs a b w))) in

@@ -58,7 +58,7 @@ module _ (lots : List (Option Lot)) (xs : List (Option Exposure)) (s w : List �
       let row : p / 16 ≡ l = omega arith in
       let col : p % 16 ≡ e = omega arith in
       let on : (held-at lots (p / 16) ≡ true) × (open-at xs (p % 16) ≡ true) =
-            ⊎-elim (λ z. gw p (omega arith, omega arith)) (λ nz. gs p (omega arith, omega arith)) (cases-eq (getD s p 0) 0) in
+      ⊎-elim (λ z. gw p (omega arith, omega arith)) (λ nz. gs p (omega arith, omega arith)) (cases-eq (getD s p 0) 0) in
       (subst (λ (x : ℕ). held-at lots x ≡ true) row (on .0), subst (λ (x : ℕ). open-at xs x ≡ true) col (on .1))
 
   one-change : (l e : ℕ) → l < 64 → e < 16 → length (change-at s w (l * 16 + e)) ≤ when (held-at lots l) (when (open-at xs e) 1)
@@ -66,16 +66,16 @@ module _ (lots : List (Option Lot)) (xs : List (Option Exposure)) (s w : List �
   one-change l e hl he =
       let p = l * 16 + e in
       two-tests (held-at lots l) (open-at xs e) (length (change-at s w p))
-        (λ some. on-both l e hl he (λ same. omega (arith, some, move-none (p / 16) (p % 16) (getD s p 0) (getD w p 0) same)))
-        (move-short (p / 16) (p % 16) (getD s p 0) (getD w p 0))
+      (λ some. on-both l e hl he (λ same. omega (arith, some, move-none (p / 16) (p % 16) (getD s p 0) (getD w p 0) same)))
+      (move-short (p / 16) (p % 16) (getD s p 0) (getD w p 0))
 
   pub few-changes : length (changes s w 1024) ≤ count 64 (held-at lots) * count 16 (open-at xs)
   few-changes =
       let wide = count 16 (open-at xs) in
       let size : length (changes s w 1024) ≡ Sum 64 (λ l. Sum 16 (λ e. length (change-at s w (l * 16 + e)))) =
-            ap length (changes-is s w 1024) ∙ (collected-length (change-at s w) 1024 ∙ sum-grid 64 16 (λ p. length (change-at s w p))) in
+      ap length (changes-is s w 1024) ∙ (collected-length (change-at s w) 1024 ∙ sum-grid 64 16 (λ p. length (change-at s w p))) in
       let rows : Sum 64 (λ l. Sum 16 (λ e. length (change-at s w (l * 16 + e)))) ≤ Sum 64 (λ l. when (held-at lots l) wide) =
-            sum-le 64 _ _ (λ l hl. rw (← when-out 16 (held-at lots l) (open-at xs)) (sum-le 16 _ _ (λ e he. one-change l e hl he))) in
+      sum-le 64 _ _ (λ l hl. rw (← when-out 16 (held-at lots l) (open-at xs)) (sum-le 16 _ _ (λ e he. one-change l e hl he))) in
       omega (arith, size, rows, times 64 wide (held-at lots))
 
 module _ (lots : List (Option Lot)) (xs : List (Option Exposure)) (s : List ℕ) (gs : Grounded lots xs s) (e : ℕ) (he : e < 16) where
@@ -85,9 +85,12 @@ module _ (lots : List (Option Lot)) (xs : List (Option Exposure)) (s : List ℕ)
       let p = l * 16 + e in
       let row : p / 16 ≡ l = omega arith in
       two-tests (held-at lots l) true (length (closing-at s e l))
-        (λ some. (subst (λ (x : ℕ). held-at lots x ≡ true) row
-            (gs p (omega arith, ⊎-elim (λ z. absurd (omega (arith, some, move-none l e (table s l e) 0 (sym z)))) (λ nz. omega arith) (cases-eq (getD s p 0) 0)) .0), refl))
-        (move-short l e (table s l e) 0)
+      (λ some. (
+        subst (λ (x : ℕ). held-at lots x ≡ true) row
+            (gs p (omega arith, ⊎-elim (λ z. absurd (omega (arith, some, move-none l e (table s l e) 0 (sym z)))) (λ nz. omega arith) (cases-eq (getD s p 0) 0)) .0),
+        refl,
+      ))
+      (move-short l e (table s l e) 0)
 
   pub few-closings : length (closings s e 64) ≤ count 64 (held-at lots)
   few-closings =

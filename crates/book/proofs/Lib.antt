@@ -6,3 +6,5 @@ pub mod Few
 pub mod Pricing
 pub mod Steps
 pub mod Noting
+pub mod Lawfuls
+pub mod Coverings

@@ -28,7 +28,7 @@ use Rattle.calls.specs.Situation.{issuer-of, worth-of, amount-of, admits-of, li
 use Rattle.book.specs.Asked.{limit-for, LotsNoted, ExposuresNoted, PairsNoted}
 
 pub noted-more : {A : Type 0} (d : A) (xs : List A) (f : ℕ → A) (i : ℕ) (v : A) → i < length xs → ((k : ℕ) → k < i → getD xs k d ≡ f k) → v ≡ f i
-  → (k : ℕ) → k < i + 1 → getD (set xs i v) k d ≡ f k
+    → (k : ℕ) → k < i + 1 → getD (set xs i v) k d ≡ f k
 noted-more d xs f i v l before here =
     below-more (λ k. getD (set xs i v) k d ≡ f k) i
     (λ k h. let ne : k ≢ i = omega arith in rw getD-set-other (before k h))
@@ -81,7 +81,7 @@ module _ (m : Meaning) (lots : List (Option Lot)) (xs : List (Option Exposure)) 
       subst (λ a. P a e) (p .0) (subst (λ b. P ((t * 16 + e) / 16) b) (p .1) it)
 
   same-limit : (l e : ℕ) → l < 64 → e < 16 → held-at lots l ≡ true → open-at xs e ≡ true
-    → limit-of m (exposure-at xs e) (issuer-of (lot-at lots l)) ≡ at limits (least (λ k. flag held k && eqb (at issuer k) (issuer-of (lot-at lots l))) 63 * 16 + e)
+      → limit-of m (exposure-at xs e) (issuer-of (lot-at lots l)) ≡ at limits (least (λ k. flag held k && eqb (at issuer k) (issuer-of (lot-at lots l))) 63 * 16 + e)
   same-limit l e hl he hh ho =
       let i = issuer-of (lot-at lots l) in
       let test : ℕ → Bool = λ k. flag held k && eqb (at issuer k) i in
@@ -101,4 +101,5 @@ module _ (m : Meaning) (lots : List (Option Lot)) (xs : List (Option Exposure)) 
     opened = λ e h. sym (ne .opened-is e h);
     amount = λ e h k. sym (ne .amount-is e h);
     admits = λ l e hl he k j. same-admits l e hl he;
-    limit = λ l e hl he hh ho. same-limit l e hl he hh ho }
+    limit = λ l e hl he hh ho. same-limit l e hl he hh ho;
+  }

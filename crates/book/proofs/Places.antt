@@ -57,14 +57,16 @@ unpledged : (n : ℕ) → ltb 0 n ≡ false → n ≡ 0
 unpledged n h = grind (arith, tells)
 
 pub lot-emptied : (lots : List (Option Lot)) (xs : List (Option Exposure)) (t : List ℕ) (p : ℕ) → ltb 0 (Sum 16 (λ e. table t p e)) ≡ false
-  → Grounded lots xs t → Grounded (set lots p None) xs t
+    → Grounded lots xs t → Grounded (set lots p None) xs t
 lot-emptied lots xs t p free g q h =
-    let on = g q h in
-    (empty-keeps lots p (q / 16) (λ e.
-        let place : p * 16 + q % 16 ≡ q = omega arith in
-        let term = sum-term 16 (q % 16) (λ k. table t p k) (omega arith) in
-        let some : 0 < table t p (q % 16) = subst (λ k. 0 < getD t k 0) (sym place) (h .1) in
-        omega (arith, term, some, unpledged (Sum 16 (λ k. table t p k)) free)) (on .0), on .1)
+    let on = g q h in (
+      empty-keeps lots p (q / 16) (λ e.
+          let place : p * 16 + q % 16 ≡ q = omega arith in
+          let term = sum-term 16 (q % 16) (λ k. table t p k) (omega arith) in
+          let some : 0 < table t p (q % 16) = subst (λ k. 0 < getD t k 0) (sym place) (h .1) in
+          omega (arith, term, some, unpledged (Sum 16 (λ k. table t p k)) free)) (on .0),
+      on .1,
+    )
 
 -- a column of zeros
 set-zero : (t : List ℕ) (i : ℕ) → getD (set t i 0) i 0 ≡ 0
@@ -83,9 +85,9 @@ unfolding zeroed
 zeroed-or t e zero p = inl refl
 zeroed-or t e (suc n) p =
     ⊎-elim
-      (λ is. inr (rw is (set-zero (zeroed t e n) (n * 16 + e))))
-      (λ ne. let other : p ≢ n * 16 + e = ne in rw getD-set-other (zeroed-or t e n p))
-      (cases-eq p (n * 16 + e))
+    (λ is. inr (rw is (set-zero (zeroed t e n) (n * 16 + e))))
+    (λ ne. let other : p ≢ n * 16 + e = ne in rw getD-set-other (zeroed-or t e n p))
+    (cases-eq p (n * 16 + e))
 
 none-below : (l : ℕ) → l < 0 → ⊥
 none-below l h = omega arith
@@ -95,9 +97,9 @@ unfolding zeroed
 zeroed-there t e zero l h = absurd (none-below l h)
 zeroed-there t e (suc n) l h =
     ⊎-elim
-      (λ is. rw is (set-zero (zeroed t e n) (n * 16 + e)))
-      (λ ne. let other : l * 16 + e ≢ n * 16 + e = omega arith in rw getD-set-other (zeroed-there t e n l (omega arith)))
-      (cases-eq l n)
+    (λ is. rw is (set-zero (zeroed t e n) (n * 16 + e)))
+    (λ ne. let other : l * 16 + e ≢ n * 16 + e = omega arith in rw getD-set-other (zeroed-there t e n l (omega arith)))
+    (cases-eq l n)
 
 gone : (n : ℕ) → n ≡ 0 → 0 < n → ⊥
 gone n e h = omega arith
@@ -109,11 +111,13 @@ module _ (t u : List ℕ) (e : ℕ) (is : u ≡ zeroed t e 64) where
   pub exposure-emptied : (lots : List (Option Lot)) (xs : List (Option Exposure)) → e < 16 → Grounded lots xs t → Grounded lots (set xs e None) u
   exposure-emptied lots xs he g = rw is (λ p h.
       ⊎-elim
-        (λ was.
-          let on = g p (h .0, omega (arith, was, h .1)) in
-          (on .0, empty-keeps xs e (p % 16) (λ col.
+      (λ was.
+      let on = g p (h .0, omega (arith, was, h .1)) in (
+        on .0,
+        empty-keeps xs e (p % 16) (λ col.
             let place : (p / 16) * 16 + e ≡ p = omega arith in
             let z : getD (zeroed t e 64) p 0 ≡ 0 = rw place at (zeroed-there t e 64 (p / 16) (omega arith)) in
-            gone (getD (zeroed t e 64) p 0) z (h .1)) (on .1)))
-        (λ z. absurd (gone (getD (zeroed t e 64) p 0) z (h .1)))
-        (zeroed-or t e 64 p))
+            gone (getD (zeroed t e 64) p 0) z (h .1)) (on .1),
+      ))
+      (λ z. absurd (gone (getD (zeroed t e 64) p 0) z (h .1)))
+      (zeroed-or t e 64 p))

@@ -48,7 +48,7 @@ le-true a b h = grind (arith, tells)
 pub ranges-true : (t : Terms) → InRange t → in-range t ≡ true
 ranges-true t r =
     and-true _ _ (le-true _ _ (r .issuer)) (and-true _ _ (le-true _ _ (r .class)) (and-true _ _ (le-true _ _ (r .rated)) (and-true _ _ (le-true _ _ (r .rating))
-      (and-true _ _ (le-true _ _ (r .months)) (and-true _ _ (le-true _ _ (r .positive)) (le-true _ _ (r .market)))))))
+    (and-true _ _ (le-true _ _ (r .months)) (and-true _ _ (le-true _ _ (r .positive)) (le-true _ _ (r .market)))))))
 
 and-left : (a b : Bool) → (a && b) ≡ true → a ≡ true
 and-left true b h = refl
@@ -68,8 +68,15 @@ ranges-from t h =
     let h₃ = and-right (leb 1 (t .rating)) _ h₂ in
     let h₄ = and-right (leb (t .rating) 22) _ h₃ in
     let h₅ = and-right (leb (t .months) 1200) _ h₄ in
-    record { issuer = true-le _ _ (and-left _ _ h); class = true-le _ _ (and-left _ _ h₁); rated = true-le _ _ (and-left _ _ h₂); rating = true-le _ _ (and-left _ _ h₃);
-      months = true-le _ _ (and-left _ _ h₄); positive = true-le _ _ (and-left _ _ h₅); market = true-le _ _ (and-right (leb 1 (t .market)) _ h₅) }
+    record {
+      issuer = true-le _ _ (and-left _ _ h);
+      class = true-le _ _ (and-left _ _ h₁);
+      rated = true-le _ _ (and-left _ _ h₂);
+      rating = true-le _ _ (and-left _ _ h₃);
+      months = true-le _ _ (and-left _ _ h₄);
+      positive = true-le _ _ (and-left _ _ h₅);
+      market = true-le _ _ (and-right (leb 1 (t .market)) _ h₅);
+    }
 
 by-cases : (b : Bool) (P : Type 0) → (b ≡ true → P) → (P → ⊥) → b ≡ false
 by-cases true P h n = absurd (n (h refl))

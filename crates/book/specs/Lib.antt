@@ -3,3 +3,4 @@ pub mod View
 pub mod Answers
 pub mod Readings
 pub mod Asked
+pub mod Covering

@@ -12,7 +12,6 @@ ghost use Rattle.calls.specs.State.{lot-at, exposure-at, held-at, open-at};
 ghost use Rattle.calls.specs.Situation.{description, issuer-of, worth-of, amount-of, admits-of, situation-of};
 ghost use Rattle.book.specs.Kept.{Worths, Amounts};
 ghost use Rattle.book.specs.Asked.{limit-for, LotsNoted, ExposuresNoted, PairsNoted};
-
 use binder::Binder;
 use calls::Exposure;
 use cover::Problem;
@@ -62,7 +61,12 @@ fn limit<B: Binder>(binder: &B, lot: Option<Lot>, exposure: Option<Exposure>) ->
 }
 
 // Notes which lot places are held, and the issuer and the collateral value of each lot.
-fn note_lots(lots: &[Option<Lot>; 64], held: &mut [bool; 64], issuer: &mut [u8; 64], worth: &mut [u64; 64])
+fn note_lots(
+    lots: &[Option<Lot>; 64],
+    held: &mut [bool; 64],
+    issuer: &mut [u8; 64],
+    worth: &mut [u64; 64],
+)
     requires { ⌜ Worths (now lots) × Low (now worth) ⌝ }
     ensures noted { λ _. ⌜ LotsNoted (now (lots .entry)) (now (held .exit)) (now (issuer .exit)) (now (worth .exit)) 64 ⌝ }
     ensures low { λ _. ⌜ Low (now (worth .exit)) ⌝ }
@@ -86,7 +90,11 @@ fn fields(lot: Option<Lot>) -> (bool, u8, u64)
 }
 
 // Notes which exposure places are open, and the amount of each exposure.
-fn note_exposures(exposures: &[Option<Exposure>; 16], opened: &mut [bool; 16], amount: &mut [u64; 16])
+fn note_exposures(
+    exposures: &[Option<Exposure>; 16],
+    opened: &mut [bool; 16],
+    amount: &mut [u64; 16],
+)
     requires { ⌜ Amounts (now exposures) × Low (now amount) ⌝ }
     ensures noted { λ _. ⌜ ExposuresNoted (now (exposures .entry)) (now (opened .exit)) (now (amount .exit)) 16 ⌝ }
     ensures low { λ _. ⌜ Low (now (amount .exit)) ⌝ }
@@ -109,7 +117,13 @@ fn amount_in(exposure: Option<Exposure>) -> (bool, u64)
 }
 
 // Asks the binder about each pair of a lot and an exposure, and notes the answers.
-fn note_pairs<B: Binder>(binder: &B, lots: &[Option<Lot>; 64], exposures: &[Option<Exposure>; 16], admitted: &mut [bool; 1024], limits: &mut [u64; 1024])
+fn note_pairs<B: Binder>(
+    binder: &B,
+    lots: &[Option<Lot>; 64],
+    exposures: &[Option<Exposure>; 16],
+    admitted: &mut [bool; 1024],
+    limits: &mut [u64; 1024],
+)
     requires { ⌜ Amounts (now exposures) × Low (now limits) ⌝ }
     ensures noted { λ _. ⌜ PairsNoted (B·Binder .meaning (now (binder .entry))) (now (lots .entry)) (now (exposures .entry)) (now (admitted .exit)) (now (limits .exit)) 1024 ⌝ }
     ensures low { λ _. ⌜ Low (now (limits .exit)) ⌝ }
@@ -123,7 +137,11 @@ fn note_pairs<B: Binder>(binder: &B, lots: &[Option<Lot>; 64], exposures: &[Opti
 }
 
 // The book's lots and exposures with the binder's answers about them.
-pub fn problem<B: Binder>(binder: &B, lots: &[Option<Lot>; 64], exposures: &[Option<Exposure>; 16]) -> Problem
+pub fn problem<B: Binder>(
+    binder: &B,
+    lots: &[Option<Lot>; 64],
+    exposures: &[Option<Exposure>; 16],
+) -> Problem
     requires { ⌜ Worths (now lots) × Amounts (now exposures) ⌝ }
     ensures { λ r. ⌜ Agrees (situation-of (B·Binder .meaning (now (binder .entry))) (now (lots .entry)) (now (exposures .entry))) (seen r) ⌝ }
 {

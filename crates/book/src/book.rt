@@ -2,10 +2,10 @@ ghost use mathlib.Core.Path.{_≡_};
 ghost use mathlib.Core.Bool.{false};
 ghost use lib.ListN.{length};
 ghost use Rattle.book.specs.Kept.{Grounded, Low, Worths, Amounts};
-
 use calls::Exposure;
 use curve::lot::Lot;
 
+pub mod allocate;
 pub mod exposures;
 pub mod lots;
 pub mod readings;

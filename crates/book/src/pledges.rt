@@ -11,7 +11,6 @@ ghost use Rattle.calls.specs.Call.{count};
 ghost use Rattle.calls.specs.Instructions.{moves, move, changes, closings, written};
 ghost use Rattle.calls.specs.Step.{zeroed};
 ghost use Rattle.book.specs.Kept.{Low};
-
 use calls::Exposure;
 use calls::Instruction;
 use curve::lot::Lot;
@@ -78,7 +77,14 @@ fn instruction(lot: usize, exposure: usize, old: u64, new: u64) -> Instruction
 }
 
 // Writes that instruction at `n` if there is a change, and returns the number of records then.
-fn note(list: &mut [Instruction], n: usize, lot: usize, exposure: usize, old: u64, new: u64) -> usize
+fn note(
+    list: &mut [Instruction],
+    n: usize,
+    lot: usize,
+    exposure: usize,
+    old: u64,
+    new: u64,
+) -> usize
     requires range { ⌜ (lot < 64) × (exposure < 16) × (old < 2 ^ 40) × (new < 2 ^ 40) ⌝ }
     requires room { ⌜ ((new ≡ old → ⊥) → n < length (now list)) ⌝ }
     ensures count { λ r. ⌜ r ≡ n + length (move lot exposure old new) ⌝ }
@@ -92,7 +98,11 @@ fn note(list: &mut [Instruction], n: usize, lot: usize, exposure: usize, old: u6
 }
 
 // Writes one instruction for each place where the tables differ, and returns their number.
-pub fn write_changes(standing: &[u64; 1024], working: &[u64; 1024], list: &mut [Instruction]) -> usize
+pub fn write_changes(
+    standing: &[u64; 1024],
+    working: &[u64; 1024],
+    list: &mut [Instruction],
+) -> usize
     requires low { ⌜ Low (now standing) × Low (now working) ⌝ }
     requires room { ⌜ length (changes (now standing) (now working) 1024) ≤ length (now list) ⌝ }
     ensures count { λ r. ⌜ r ≡ length (changes (now (standing .entry)) (now (working .entry)) 1024) ⌝ }

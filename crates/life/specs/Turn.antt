@@ -58,12 +58,12 @@ told abandoned = outcome.Abandoned
 -- an order is carried out: its call is made, or there is none to make and nothing happens
 pub data Turn (m : Meaning) (k : Card) (o : Order) (s : State) : Outcome → List Instruction → State → Type 0 where
   made : (list : List Instruction) (note : Record) (c : Call) → call-of k s list note o ≡ Some c
-    → (r : call.Outcome) (t : State) → Step m c s r t → Turn m k o s (told r) (given-out r) t
+      → (r : call.Outcome) (t : State) → Step m c s r t → Turn m k o s (told r) (given-out r) t
   idle : ((list : List Instruction) (note : Record) → call-of k s list note o ≡ None) → Turn m k o s outcome.NoSlip [] s
 
 -- orders are carried out one after the other, from the state s on
 pub data Played (m : Meaning) (k : Card) (s : State) : List Order → List Outcome → List Instruction → State → Type 0 where
   none : Played m k s [] [] [] s
   more : {os : List Order} {rs : List Outcome} {given : List Instruction} {t : State} → Played m k s os rs given t
-    → (o : Order) (r : Outcome) (new : List Instruction) (u : State) → Turn m k o t r new u
-    → Played m k s (os ++ (o ∷ [])) (rs ++ (r ∷ [])) (given ++ new) u
+      → (o : Order) (r : Outcome) (new : List Instruction) (u : State) → Turn m k o t r new u
+      → Played m k s (os ++ (o ∷ [])) (rs ++ (r ∷ [])) (given ++ new) u

@@ -1,5 +1,4 @@
 ghost use Rattle.life.specs.Matched.{Matched};
-
 use binder::Binder;
 use book::book::Book;
 use book::slip::Slip;

@@ -6,7 +6,6 @@ ghost use Rattle.calls.specs.Call.Call.{open-exposure as open-call, close as cl
 ghost use Rattle.calls.specs.Step.{Step};
 ghost use Rattle.book.specs.View.{view};
 ghost use Rattle.book.specs.Answers.{opening, closing};
-
 use crate::book::Book;
 use crate::pledges::held_lots;
 use crate::pledges::write_closings;
@@ -25,7 +24,13 @@ fn is_amount(amount: u64) -> bool
 
 impl Book {
     // Opens an exposure at an empty place, under a schedule that the binder holds.
-    pub fn open<B: Binder>(&mut self, place: u64, amount: u64, schedule: u64, binder: &B) -> Result<(), Cause>
+    pub fn open<B: Binder>(
+        &mut self,
+        place: u64,
+        amount: u64,
+        schedule: u64,
+        binder: &B,
+    ) -> Result<(), Cause>
         ensures { λ r. ⌜ Step (B·Binder .meaning (now (binder .entry))) (open-call place amount schedule) (view (now (self .entry))) (opening r) (view (now (self .exit))) ⌝ }
     {
         if place > 15 {

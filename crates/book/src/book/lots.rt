@@ -4,7 +4,6 @@ ghost use Rattle.calls.specs.Call.Call.{add as add-call, withdraw as withdraw-c
 ghost use Rattle.calls.specs.Step.{Step};
 ghost use Rattle.book.specs.View.{view};
 ghost use Rattle.book.specs.Answers.{adding, withdrawing};
-
 use crate::book::Book;
 use crate::pledges::is_pledged;
 use cause::Cause;

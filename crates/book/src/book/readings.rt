@@ -6,7 +6,6 @@ ghost use Rattle.std.specs.declared.result.Result.the-variants.{Ok};
 ghost use Rattle.calls.specs.State.{held-at, open-at};
 ghost use Rattle.book.specs.View.{view};
 ghost use Rattle.book.specs.Readings.{lot-read, exposure-read, pledge-read, run-open};
-
 use crate::book::Book;
 use calls::Exposure;
 use cause::Cause;

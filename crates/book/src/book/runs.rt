@@ -5,7 +5,6 @@ ghost use Rattle.calls.specs.Call.Call.{begin as begin-call, settle as settle-c
 ghost use Rattle.calls.specs.Step.{Step};
 ghost use Rattle.book.specs.View.{view, numbers};
 ghost use Rattle.book.specs.Answers.{beginning, settling, abandoning};
-
 use crate::book::Book;
 use crate::pledges::held_lots;
 use crate::pledges::open_exposures;

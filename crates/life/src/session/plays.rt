@@ -5,7 +5,6 @@ ghost use lib.ListN.{length, take};
 ghost use Rattle.calls.specs.Life.{Life};
 ghost use Rattle.book.specs.View.{view};
 ghost use Rattle.life.specs.Turn.{Turn, Played};
-
 use crate::order::Order;
 use crate::order::Outcome;
 use crate::session::Session;

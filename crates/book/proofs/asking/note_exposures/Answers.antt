@@ -11,8 +11,10 @@ loop-e-again c =
     let xs = c .args .exposures .now in
     let e = c .loop-e .e in
     let inv = c .loop-e .inv in
-    let r = c .amount-in-is-open .ensures in
-    (record {
-      opened-is = noted-more false (c .loop-e .opened) (open-at xs) e _ (omega arith) (inv .0 .opened-is) (r .0);
-      amount-is = noted-more 0 (c .loop-e .amount) (λ k. amount-of (exposure-at xs k)) e _ (omega arith) (inv .0 .amount-is) (r .1) },
-     low-more (c .loop-e .amount) e _ (rw (r .1) (c .pre .0 e)) (inv .1))
+    let r = c .amount-in-is-open .ensures in (
+      record {
+        opened-is = noted-more false (c .loop-e .opened) (open-at xs) e _ (omega arith) (inv .0 .opened-is) (r .0);
+        amount-is = noted-more 0 (c .loop-e .amount) (λ k. amount-of (exposure-at xs k)) e _ (omega arith) (inv .0 .amount-is) (r .1);
+      },
+      low-more (c .loop-e .amount) e _ (rw (r .1) (c .pre .0 e)) (inv .1),
+    )

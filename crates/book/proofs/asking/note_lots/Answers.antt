@@ -11,9 +11,11 @@ loop-l-again c =
     let lots = c .args .lots .now in
     let l = c .loop-l .l in
     let inv = c .loop-l .inv in
-    let e = c .fields-is-held .ensures in
-    (record {
-      held-is = noted-more false (c .loop-l .held) (held-at lots) l _ (omega arith) (inv .0 .held-is) (e .0);
-      issuer-is = noted-more 0 (c .loop-l .issuer) (λ k. issuer-of (lot-at lots k)) l _ (omega arith) (inv .0 .issuer-is) (e .1);
-      worth-is = noted-more 0 (c .loop-l .worth) (λ k. worth-of (lot-at lots k)) l _ (omega arith) (inv .0 .worth-is) (e .2) },
-     low-more (c .loop-l .worth) l _ (rw (e .2) (c .pre .0 l)) (inv .1))
+    let e = c .fields-is-held .ensures in (
+      record {
+        held-is = noted-more false (c .loop-l .held) (held-at lots) l _ (omega arith) (inv .0 .held-is) (e .0);
+        issuer-is = noted-more 0 (c .loop-l .issuer) (λ k. issuer-of (lot-at lots k)) l _ (omega arith) (inv .0 .issuer-is) (e .1);
+        worth-is = noted-more 0 (c .loop-l .worth) (λ k. worth-of (lot-at lots k)) l _ (omega arith) (inv .0 .worth-is) (e .2);
+      },
+      low-more (c .loop-l .worth) l _ (rw (e .2) (c .pre .0 l)) (inv .1),
+    )

@@ -14,8 +14,10 @@ loop-k-again g c =
     let lots = c .args .lots .now in
     let xs = c .args .exposures .now in
     let k = c .loop-k .k in
-    let inv = c .loop-k .inv in
-    (record {
-      admits-is = noted-more false (c .loop-k .admitted) (λ j. admits-of m (lot-at lots (j / 16)) (exposure-at xs (j % 16))) k _ (omega arith) (inv .0 .admits-is) (c .admits .ensures);
-      limits-is = noted-more 0 (c .loop-k .limits) (λ j. limit-for m (lot-at lots (j / 16)) (exposure-at xs (j % 16))) k _ (omega arith) (inv .0 .limits-is) (c .limit .ensures .value) },
-     low-more (c .loop-k .limits) k _ (c .limit .ensures .low) (inv .1))
+    let inv = c .loop-k .inv in (
+      record {
+        admits-is = noted-more false (c .loop-k .admitted) (λ j. admits-of m (lot-at lots (j / 16)) (exposure-at xs (j % 16))) k _ (omega arith) (inv .0 .admits-is) (c .admits .ensures);
+        limits-is = noted-more 0 (c .loop-k .limits) (λ j. limit-for m (lot-at lots (j / 16)) (exposure-at xs (j % 16))) k _ (omega arith) (inv .0 .limits-is) (c .limit .ensures .value);
+      },
+      low-more (c .loop-k .limits) k _ (c .limit .ensures .low) (inv .1),
+    )

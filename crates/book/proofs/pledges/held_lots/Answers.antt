@@ -12,5 +12,6 @@ pub loop-l-again : need.loop-l-again
 loop-l-again c =
     let test = held-at (c .args .lots .now) in
     elim (c .if-is-some .came) [
-      then-is-some w ↦ (let e = count-hit test (c .loop-l .l) (sym (c .is-some .ensures) ∙ w .if-is-some .taken) in (omega (arith, e, w .n-is), omega (arith, w .n-is)))
-    | else-is-some w ↦ (let e = count-miss test (c .loop-l .l) (sym (c .is-some .ensures) ∙ w .if-is-some .left) in (omega (arith, e, w .n-is), omega (arith, w .n-is))) ]
+      | then-is-some w ↦ (let e = count-hit test (c .loop-l .l) (sym (c .is-some .ensures) ∙ w .if-is-some .taken) in (omega (arith, e, w .n-is), omega (arith, w .n-is)))
+      | else-is-some w ↦ (let e = count-miss test (c .loop-l .l) (sym (c .is-some .ensures) ∙ w .if-is-some .left) in (omega (arith, e, w .n-is), omega (arith, w .n-is)))
+    ]

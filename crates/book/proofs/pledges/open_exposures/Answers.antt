@@ -12,5 +12,6 @@ pub loop-e-again : need.loop-e-again
 loop-e-again c =
     let test = open-at (c .args .exposures .now) in
     elim (c .if-is-some .came) [
-      then-is-some w ↦ (let e = count-hit test (c .loop-e .e) (sym (c .is-some .ensures) ∙ w .if-is-some .taken) in (omega (arith, e, w .n-is), omega (arith, w .n-is)))
-    | else-is-some w ↦ (let e = count-miss test (c .loop-e .e) (sym (c .is-some .ensures) ∙ w .if-is-some .left) in (omega (arith, e, w .n-is), omega (arith, w .n-is))) ]
+      | then-is-some w ↦ (let e = count-hit test (c .loop-e .e) (sym (c .is-some .ensures) ∙ w .if-is-some .taken) in (omega (arith, e, w .n-is), omega (arith, w .n-is)))
+      | else-is-some w ↦ (let e = count-miss test (c .loop-e .e) (sym (c .is-some .ensures) ∙ w .if-is-some .left) in (omega (arith, e, w .n-is), omega (arith, w .n-is)))
+    ]

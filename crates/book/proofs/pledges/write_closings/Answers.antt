@@ -22,8 +22,14 @@ note-n-requires c κs =
     let room : length (collected (closing-at s e) 64) ≤ length (c .args .list .now) = omega (arith, c .pre .room, ap length (closings-is s e 64)) in
     record {
       range = (omega arith, omega arith, c .pre .low .0 (l * 16 + e), omega arith);
-      room = λ d. omega (arith, has-room (closing-at s e) l 64 (c .args .list .now) (c .loop-l .list) l e (table s l e) 0 refl (omega arith) room d,
-        inv .0, ap length (closings-is s e l), c .loop-l .kept .list) }
+      room = λ d. omega (
+        arith,
+        has-room (closing-at s e) l 64 (c .args .list .now) (c .loop-l .list) l e (table s l e) 0 refl (omega arith) room d,
+        inv .0,
+        ap length (closings-is s e l),
+        c .loop-l .kept .list,
+      );
+    }
 
 pub loop-l-again : need.loop-l-again
 unfolding closing-at
@@ -34,5 +40,5 @@ loop-l-again c =
     let inv = c .loop-l .inv in
     let room : length (collected (closing-at s e) 64) ≤ length (c .args .list .now) = omega (arith, c .pre .room, ap length (closings-is s e 64)) in
     let t = turn (closing-at s e) l 64 (c .args .list .now) (c .loop-l .list) l e (table s l e) 0 refl (omega arith) room
-          (c .loop-l .n) (inv .0 ∙ ap length (closings-is s e l)) (inv .1 ∙ ap (λ xs. written xs (c .args .list .now)) (closings-is s e l)) in
+    (c .loop-l .n) (inv .0 ∙ ap length (closings-is s e l)) (inv .1 ∙ ap (λ xs. written xs (c .args .list .now)) (closings-is s e l)) in
     rw (closings-is s e (l + 1)) (c .note-n .ensures .count ∙ t .0, c .note-n .ensures .list ∙ t .1)

@@ -24,11 +24,28 @@ ghost-self c =
     let st = c .zero-column .last .pledges in
     let wt = c .zero-column-2 .last .pledges in
     let is = c .zero-column .ensures in
-    let is′ = c .zero-column-2 .ensures in
-    ((b .places .0, length-set (b .exposures) e None ∙ b .places .1),
-      ((ap length is ∙ (zeroed-length (b .standing) e 64 ∙ b .tables .0), ap length is′ ∙ (zeroed-length (b .working) e 64 ∙ b .tables .1)),
-      (exposure-emptied (b .standing) st e is (b .lots) (b .exposures) within (b .grounded),
-      (exposure-emptied (b .working) wt e is′ (b .lots) (b .exposures) within (b .«grounded_working»),
-      (zeroed-low (b .standing) st e is (b .low), (zeroed-low (b .working) wt e is′ (b .«low_working»),
-      (b .worths, (low-set amount-of (b .exposures) e None 1099511627776 (omega arith) (b .amounts),
-      ((λ h. is′ ∙ (ap (λ x. zeroed x e 64) (b .idle h) ∙ sym is)), tt)))))))))
+    let is′ = c .zero-column-2 .ensures in (
+      (b .places .0, length-set (b .exposures) e None ∙ b .places .1),
+      (
+        (ap length is ∙ (zeroed-length (b .standing) e 64 ∙ b .tables .0), ap length is′ ∙ (zeroed-length (b .working) e 64 ∙ b .tables .1)),
+        (
+          exposure-emptied (b .standing) st e is (b .lots) (b .exposures) within (b .grounded),
+          (
+            exposure-emptied (b .working) wt e is′ (b .lots) (b .exposures) within (b .«grounded_working»),
+            (
+              zeroed-low (b .standing) st e is (b .low),
+              (
+                zeroed-low (b .working) wt e is′ (b .«low_working»),
+                (
+                  b .worths,
+                  (
+                    low-set amount-of (b .exposures) e None 1099511627776 (omega arith) (b .amounts),
+                    ((λ h. is′ ∙ (ap (λ x. zeroed x e 64) (b .idle h) ∙ sym is)), tt),
+                  ),
+                ),
+              ),
+            ),
+          ),
+        ),
+      ),
+    )

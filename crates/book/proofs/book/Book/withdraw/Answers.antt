@@ -15,8 +15,16 @@ ghost-self c =
     let b = c .args .self .now in
     let p = c .args .place in
     let free : ltb 0 (Sum 16 (λ e. table (b .standing) p e)) ≡ false = sym (c .is-pledged .ensures) ∙ c .if-is-pledged .left in
-    let free-working : ltb 0 (Sum 16 (λ e. table (b .working) p e)) ≡ false = ap (λ t. ltb 0 (Sum 16 (λ e. table t p e))) (b .idle (c .if-self .left)) ∙ free in
-    ((length-set (b .lots) p None ∙ b .places .0, b .places .1), (b .tables,
-      (lot-emptied (b .lots) (b .exposures) (b .standing) p free (b .grounded),
-      (lot-emptied (b .lots) (b .exposures) (b .working) p free-working (b .«grounded_working»),
-      (b .low, (b .«low_working», (low-set worth-of (b .lots) p None 1099511627776 (omega arith) (b .worths), (b .amounts, (b .idle, tt)))))))))
+    let free-working : ltb 0 (Sum 16 (λ e. table (b .working) p e)) ≡ false = ap (λ t. ltb 0 (Sum 16 (λ e. table t p e))) (b .idle (c .if-self .left)) ∙ free in (
+      (length-set (b .lots) p None ∙ b .places .0, b .places .1),
+      (
+        b .tables,
+        (
+          lot-emptied (b .lots) (b .exposures) (b .standing) p free (b .grounded),
+          (
+            lot-emptied (b .lots) (b .exposures) (b .working) p free-working (b .«grounded_working»),
+            (b .low, (b .«low_working», (low-set worth-of (b .lots) p None 1099511627776 (omega arith) (b .worths), (b .amounts, (b .idle, tt))))),
+          ),
+        ),
+      ),
+    )
