@@ -106,6 +106,7 @@ pub fn write_changes(
     requires low { ⌜ Low (now standing) × Low (now working) ⌝ }
     requires room { ⌜ length (changes (now standing) (now working) 1024) ≤ length (now list) ⌝ }
     ensures count { λ r. ⌜ r ≡ length (changes (now (standing .entry)) (now (working .entry)) 1024) ⌝ }
+    ensures fits { λ r. ⌜ r ≤ length (now (list .entry)) ⌝ }
     ensures after { λ _. ⌜ now (list .exit) ≡ written (changes (now (standing .entry)) (now (working .entry)) 1024) (now (list .entry)) ⌝ }
 {
     let mut n = 0;
@@ -120,6 +121,7 @@ pub fn write_closings(standing: &[u64; 1024], exposure: usize, list: &mut [Instr
     requires low { ⌜ Low (now standing) × (exposure < 16) ⌝ }
     requires room { ⌜ length (closings (now standing) exposure 64) ≤ length (now list) ⌝ }
     ensures count { λ r. ⌜ r ≡ length (closings (now (standing .entry)) exposure 64) ⌝ }
+    ensures fits { λ r. ⌜ r ≤ length (now (list .entry)) ⌝ }
     ensures after { λ _. ⌜ now (list .exit) ≡ written (closings (now (standing .entry)) exposure 64) (now (list .entry)) ⌝ }
 {
     let mut n = 0;

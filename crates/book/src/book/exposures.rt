@@ -1,6 +1,9 @@
 ghost use mathlib.Core.Path.{_≡_};
 ghost use mathlib.Core.Bool.{_&&_};
+ghost use Prim.Native.Nat.{_≤_};
 ghost use lib.Dec.{leb};
+ghost use lib.ListN.{length};
+ghost use Rattle.std.specs.Results.{Cases};
 ghost use Rattle.binder.specs.Meaning.{Meaning};
 ghost use Rattle.calls.specs.Call.Call.{open-exposure as open-call, close as close-call};
 ghost use Rattle.calls.specs.Step.{Step};
@@ -58,7 +61,8 @@ impl Book {
     // Empties an exposure's place. Writes, by lot, one instruction for each standing pledge to it, and
     // returns their number; the pledges are 0 in both tables then.
     pub fn close(&mut self, place: u64, list: &mut [Instruction]) -> Result<usize, Cause>
-        ensures { λ r. ⌜ ((m : Meaning) → Step m (close-call place (now (list .entry))) (view (now (self .entry))) (closing (now (list .exit)) r) (view (now (self .exit)))) ⌝ }
+        ensures room { λ r. ⌜ Cases r (λ n. n ≤ length (now (list .entry))) (λ _. Unit {0}) ⌝ }
+        ensures step { λ r. ⌜ ((m : Meaning) → Step m (close-call place (now (list .entry))) (view (now (self .entry))) (closing (now (list .exit)) r) (view (now (self .exit)))) ⌝ }
     {
         if place > 15 {
             return Err(Cause::PlaceOutside);

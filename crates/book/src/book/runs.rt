@@ -1,4 +1,7 @@
 ghost use mathlib.Core.Path.{_≡_};
+ghost use Prim.Native.Nat.{_≤_};
+ghost use lib.ListN.{length};
+ghost use Rattle.std.specs.Results.{Cases};
 ghost use Rattle.binder.specs.Meaning.{Meaning};
 ghost use Rattle.calls.specs.State.{opening as new-state};
 ghost use Rattle.calls.specs.Call.Call.{begin as begin-call, settle as settle-call, abandon as abandon-call};
@@ -50,7 +53,8 @@ impl Book {
     // Makes the working table stand, and ends the run. Writes, by lot and then by exposure, one
     // instruction for each place where the tables differ, and returns their number.
     pub fn settle(&mut self, slip: Slip, list: &mut [Instruction]) -> Result<usize, (Cause, Slip)>
-        ensures { λ r. ⌜ ((m : Meaning) → Step m (settle-call (numbers slip) (now (list .entry))) (view (now (self .entry))) (settling (now (list .exit)) r) (view (now (self .exit)))) ⌝ }
+        ensures room { λ r. ⌜ Cases r (λ n. n ≤ length (now (list .entry))) (λ _. Unit {0}) ⌝ }
+        ensures step { λ r. ⌜ ((m : Meaning) → Step m (settle-call (numbers slip) (now (list .entry))) (view (now (self .entry))) (settling (now (list .exit)) r) (view (now (self .exit)))) ⌝ }
     {
         if !self.in_run || slip.book != self.number || slip.run != self.run {
             return Err((Cause::SlipStale, slip));

@@ -12,6 +12,12 @@ use binder::Binder;
 use book::book::Book;
 use curve::card::Card;
 
+const BLANK: Record = Record {
+    exposures: 0,
+    lots: 0,
+    issuers: [0; 16],
+};
+
 impl<B: Binder> Session<B> {
     // A new book under a binder.
     pub fn new(number: u16, binder: B, card: Card) -> Session<B>
@@ -22,6 +28,23 @@ impl<B: Binder> Session<B> {
             slip: None,
             binder,
             card,
+        }
+    }
+
+    // Opens the next run; its slip stays here.
+    fn begin(&mut self) -> Outcome
+        ensures turn { λ r. ⌜ Turn (B·Binder .meaning (now (self .entry) .binder)) (now (self .entry) .card) Order.Begin (view (now (self .entry) .book)) r [] (view (now (self .exit) .book)) ⌝ }
+        ensures same { λ _. ⌜ Same (now (self .entry)) (now (self .exit)) ⌝ }
+    {
+        match self.book.begin() {
+            Ok(slip) => {
+                let run = slip.run();
+                match self.slip.replace(slip) {
+                    Some(_old) => unreachable(),
+                    None => Outcome::Began(run),
+                }
+            }
+            Err(cause) => Outcome::Refused(cause),
         }
     }
 }
