@@ -55,6 +55,20 @@ told (allocated k r) = outcome.Allocated k
 told (settled n list) = outcome.Settled n
 told abandoned = outcome.Abandoned
 
+-- how many instructions an outcome tells of
+abbrev pub count-of : Outcome → ℕ
+count-of (outcome.Refused e) = 0
+count-of (outcome.Short x r) = 0
+count-of (outcome.Added v) = 0
+count-of outcome.Withdrawn = 0
+count-of outcome.Opened = 0
+count-of (outcome.Closed n) = n
+count-of (outcome.Began n) = 0
+count-of (outcome.Allocated k) = 0
+count-of (outcome.Settled n) = n
+count-of outcome.Abandoned = 0
+count-of outcome.NoSlip = 0
+
 -- an order is carried out: its call is made, or there is none to make and nothing happens
 pub data Turn (m : Meaning) (k : Card) (o : Order) (s : State) : Outcome → List Instruction → State → Type 0 where
   made : (list : List Instruction) (note : Record) (c : Call) → call-of k s list note o ≡ Some c
