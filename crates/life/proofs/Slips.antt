@@ -7,6 +7,7 @@ use mathlib.Core.Logic.{_⊎_, inl, inr, ⊎-elim}
 use Prim.Native.Nat.{ℕ}
 use native.Mathlib.Omega.{arith}
 use lib.Dec.{eqb, leb}
+use lib.ListN.{take}
 use Rattle.std.proofs.shelf.Tests.{eqb-true}
 use borrow.Author.Tests.{eq-eqb}
 use Rattle.std.specs.declared.option.Option.{Option}
@@ -23,10 +24,9 @@ use Rattle.calls.specs.Call.{Call, Numbers, cause, own, given-out}
 use Rattle.calls.specs.Call.Call.{add, withdraw, open-exposure, close, begin, allocate, settle, abandon}
 use Rattle.calls.specs.Call.Outcome.{refused, short, added, withdrawn, exposed, closed, began, allocated, settled, abandoned}
 use Rattle.calls.specs.Step.{Step, Decided, Grants}
-use Rattle.calls.specs.Life.{Life, opened, next}
 use Rattle.book.specs.View.{numbers}
 use Rattle.book.specs.declared.slip.Slip.{Slip}
-use Rattle.life.specs.Turn.{slip-of, with-slip, call-of, told, Turn, made, idle, Played, none, more}
+use Rattle.life.specs.Turn.{slip-of, with-slip, call-of, told, count-of, Turn, made, idle}
 use Rattle.life.specs.Matched.{has-slip}
 use Rattle.life.specs.Reported.{reported}
 use Rattle.std.specs.declared.result.Result.{Result}
@@ -34,7 +34,9 @@ use Rattle.std.specs.declared.result.Result.the-variants.{Ok, Err}
 use Rattle.book.specs.Answers.{allocating}
 use Rattle.book.specs.declared.book.allocate.AllocateFault.{AllocateFault}
 use Rattle.book.specs.declared.book.allocate.AllocateFault.the-variants as fault
+use Rattle.curve.specs.declared.lot.Terms.{Terms}
 use Rattle.life.specs.declared.order.Order.{Order}
+use Rattle.life.specs.declared.order.Order.the-variants as order
 use Rattle.life.specs.declared.order.Outcome.{Outcome}
 
 -- a record that no call reads
@@ -166,3 +168,104 @@ pub allocation-told : (m : Meaning) (k : Card) (o : Order) (s t : State) (n : Nu
 allocation-told m k o s t n note (Ok r) turn = turn
 allocation-told m k o s t n note (Err fault.Slip) turn = turn
 allocation-told m k o s t n note (Err (fault.Short x)) turn = turn
+
+pub reported-none : (answer : Result ℕ AllocateFault) (note : Record) → count-of (reported answer note) ≡ 0
+reported-none (Ok r) note = refl
+reported-none (Err fault.Slip) note = refl
+reported-none (Err (fault.Short x)) note = refl
+
+-- an outcome that tells of no instructions
+pub none-taken : {m : Meaning} {k : Card} {o : Order} {s t : State} (r : Outcome) (list : List Instruction) → count-of r ≡ 0 → Turn m k o s r [] t → Turn m k o s r (take (count-of r) list) t
+none-taken {m} {k} {o} {s} {t} r list e turn = subst (λ n. Turn m k o s r (take n list) t) (sym e) turn
+
+-- calls that neither open nor end a run leave its slip
+pub record SameRun (s t : State) : Type 0 where
+  pub in-run : t .in-run ≡ s .in-run
+  pub number : t .number ≡ s .number
+  pub run : t .run ≡ s .run
+
+same : (s t : State) → t ≡ s → SameRun s t
+same s t e = record { in-run = ap (λ (x : State). x .in-run) e; number = ap (λ (x : State). x .number) e; run = ap (λ (x : State). x .run) e }
+
+KeepsRun : Call → State → State → Type 0
+KeepsRun (add p x k) s t = SameRun s t
+KeepsRun (withdraw p) s t = SameRun s t
+KeepsRun (open-exposure p a n) s t = SameRun s t
+KeepsRun (close p l) s t = SameRun s t
+KeepsRun begin s t = Unit {0}
+KeepsRun (allocate x r) s t = SameRun s t
+KeepsRun (settle x l) s t = Unit {0}
+KeepsRun (abandon x) s t = Unit {0}
+
+kept-same : (c : Call) (s t : State) → t ≡ s → KeepsRun c s t
+unfolding KeepsRun
+kept-same (add p x k) s t e = same s t e
+kept-same (withdraw p) s t e = same s t e
+kept-same (open-exposure p a n) s t e = same s t e
+kept-same (close p l) s t e = same s t e
+kept-same begin s t e = tt
+kept-same (allocate x r) s t e = same s t e
+kept-same (settle x l) s t e = tt
+kept-same (abandon x) s t e = tt
+
+fields : (s t u : State) → t ≡ u → u .in-run ≡ s .in-run → u .number ≡ s .number → u .run ≡ s .run → SameRun s t
+fields s t u e a b c = record { in-run = ap (λ (x : State). x .in-run) e ∙ a; number = ap (λ (x : State). x .number) e ∙ b; run = ap (λ (x : State). x .run) e ∙ c }
+
+grants-keep : (m : Meaning) (c : Call) (s t : State) (o : call.Outcome) → Grants m c s o t → KeepsRun c s t
+unfolding KeepsRun
+grants-keep m (add p x k) s t o (h, w, eo, et) = fields s t _ et refl refl refl
+grants-keep m (withdraw p) s t o (eo, et) = fields s t _ et refl refl refl
+grants-keep m (open-exposure p a n) s t o (eo, et) = fields s t _ et refl refl refl
+grants-keep m (close p l) s t o (eo, et) = fields s t _ et refl refl refl
+grants-keep m begin s t o g = tt
+grants-keep m (allocate x r) s t o (inl w) = fields s t _ (w .after) refl refl refl
+grants-keep m (allocate x r) s t o (inr w) = same s t (w .same)
+grants-keep m (settle x l) s t o g = tt
+grants-keep m (abandon x) s t o g = tt
+
+step-keeps : (m : Meaning) (c : Call) (s t : State) (o : call.Outcome) → Step m c s o t → KeepsRun c s t
+step-keeps m c s t o = decided (cause m s c) where
+  decided : (v : Option Cause) → Decided v m c s o t → KeepsRun c s t
+  decided (Some k) (eo, et) = kept-same c s t et
+  decided None g = grants-keep m c s t o g
+
+-- the same of orders
+unwrap : {a b : Call} → Some a ≡ Some b → a ≡ b
+unwrap p = cc
+
+module _ {m : Meaning} {k : Card} {s : State} where
+  pub add-keeps : {p : ℕ} {x : Terms} {r : Outcome} {new : List Instruction} {t : State} → Turn m k (order.Add p x) s r new t → SameRun s t
+  unfolding KeepsRun
+  add-keeps {p} {x} (made list note c e r t step) = step-keeps m (add p x k) s t r (subst (λ (d : Call). Step m d s r t) (sym (unwrap e)) step)
+  add-keeps (idle e) = same s s refl
+
+  pub withdraw-keeps : {p : ℕ} {r : Outcome} {new : List Instruction} {t : State} → Turn m k (order.Withdraw p) s r new t → SameRun s t
+  unfolding KeepsRun
+  withdraw-keeps {p} (made list note c e r t step) = step-keeps m (withdraw p) s t r (subst (λ (d : Call). Step m d s r t) (sym (unwrap e)) step)
+  withdraw-keeps (idle e) = same s s refl
+
+  pub open-keeps : {p a n : ℕ} {r : Outcome} {new : List Instruction} {t : State} → Turn m k (order.Open p a n) s r new t → SameRun s t
+  unfolding KeepsRun
+  open-keeps {p} {a} {n} (made list note c e r t step) = step-keeps m (open-exposure p a n) s t r (subst (λ (d : Call). Step m d s r t) (sym (unwrap e)) step)
+  open-keeps (idle e) = same s s refl
+
+  pub close-keeps : {p : ℕ} {r : Outcome} {new : List Instruction} {t : State} → Turn m k (order.Close p) s r new t → SameRun s t
+  unfolding KeepsRun
+  close-keeps {p} (made list note c e r t step) = step-keeps m (close p list) s t r (subst (λ (d : Call). Step m d s r t) (sym (unwrap e)) step)
+  close-keeps (idle e) = same s s refl
+
+  pub allocate-keeps : {r : Outcome} {new : List Instruction} {t : State} → Turn m k order.Allocate s r new t → SameRun s t
+  unfolding KeepsRun
+  allocate-keeps (made list note c e r t step) = by-slip (slip-of s) refl where
+    by-slip : (n : Option Numbers) → slip-of s ≡ n → SameRun s t
+    by-slip None is = let z : with-slip None (λ x. allocate x note) ≡ Some c = subst (λ n. with-slip n (λ x. allocate x note) ≡ Some c) is e in let w : _≡_ {A = ℕ} 0 1 = cc in apart w
+    by-slip (Some n) is = step-keeps m (allocate n note) s t r (subst (λ (d : Call). Step m d s r t) (sym (unwrap (subst (λ x. with-slip x (λ y. allocate y note) ≡ Some c) is e))) step)
+  allocate-keeps (idle e) = same s s refl
+
+pub still-held : (s t : State) (x : Option Slip) → SameRun s t → has-slip s x ≡ true → has-slip t x ≡ true
+still-held s t None r h = rw (r .in-run) h
+still-held s t (Some x) r h = rw (r .in-run, r .number, r .run) h
+
+-- an order that is known by an equation
+pub turn-of : {m : Meaning} {k : Card} {o o′ : Order} {s t : State} {r : Outcome} {new : List Instruction} → o ≡ o′ → Turn m k o′ s r new t → Turn m k o s r new t
+turn-of {m} {k} {o} {o′} {s} {t} {r} {new} e turn = subst (λ x. Turn m k x s r new t) (sym e) turn

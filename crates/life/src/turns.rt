@@ -12,6 +12,7 @@ ghost use Rattle.life.specs.Turn.{Turn, count-of};
 ghost use Rattle.life.specs.Matched.{Matched};
 ghost use Rattle.life.specs.Reported.{reported};
 ghost use Rattle.life.specs.declared.order.Order.the-variants.{Add, Withdraw, Open, Close, Begin, Allocate, Settle, Abandon};
+use crate::order::Order;
 use crate::order::Outcome;
 use binder::Binder;
 use book::book::Book;
@@ -23,7 +24,8 @@ use curve::card::Card;
 use curve::lot::Terms;
 
 pub fn add(book: &mut Book, card: &Card, place: u64, terms: Terms) -> Outcome
-    ensures { λ r. ⌜ ((m : Meaning) → Turn m (now (card .entry)) (Add place terms) (view (now (book .entry))) r [] (view (now (book .exit)))) ⌝ }
+    ensures none { λ r. ⌜ count-of r ≡ 0 ⌝ }
+    ensures turn { λ r. ⌜ ((m : Meaning) → Turn m (now (card .entry)) (Add place terms) (view (now (book .entry))) r [] (view (now (book .exit)))) ⌝ }
 {
     match book.add(place, &terms, card) {
         Ok(worth) => Outcome::Added(worth),
@@ -32,7 +34,8 @@ pub fn add(book: &mut Book, card: &Card, place: u64, terms: Terms) -> Outcome
 }
 
 pub fn withdraw(book: &mut Book, place: u64) -> Outcome
-    ensures { λ r. ⌜ ((m : Meaning) (k : Carded) → Turn m k (Withdraw place) (view (now (book .entry))) r [] (view (now (book .exit)))) ⌝ }
+    ensures none { λ r. ⌜ count-of r ≡ 0 ⌝ }
+    ensures turn { λ r. ⌜ ((m : Meaning) (k : Carded) → Turn m k (Withdraw place) (view (now (book .entry))) r [] (view (now (book .exit)))) ⌝ }
 {
     match book.withdraw(place) {
         Ok(()) => Outcome::Withdrawn,
@@ -47,7 +50,8 @@ pub fn open<B: Binder>(
     amount: u64,
     schedule: u64,
 ) -> Outcome
-    ensures { λ r. ⌜ ((k : Carded) → Turn (B·Binder .meaning (now (binder .entry))) k (Open place amount schedule) (view (now (book .entry))) r [] (view (now (book .exit)))) ⌝ }
+    ensures none { λ r. ⌜ count-of r ≡ 0 ⌝ }
+    ensures turn { λ r. ⌜ ((k : Carded) → Turn (B·Binder .meaning (now (binder .entry))) k (Open place amount schedule) (view (now (book .entry))) r [] (view (now (book .exit)))) ⌝ }
 {
     match book.open(place, amount, schedule, binder) {
         Ok(()) => Outcome::Opened,
@@ -67,6 +71,7 @@ pub fn close(book: &mut Book, place: u64, list: &mut [Instruction]) -> Outcome
 
 pub fn begin(book: &mut Book, slip: Option<Slip>) -> (Outcome, Option<Slip>)
     requires { ⌜ Matched (now book) slip ⌝ }
+    ensures none { λ r. ⌜ count-of (r .0) ≡ 0 ⌝ }
     ensures turn { λ r. ⌜ ((m : Meaning) (k : Carded) → Turn m k Begin (view (now (book .entry))) (r .0) [] (view (now (book .exit)))) ⌝ }
     ensures matched { λ r. ⌜ Matched (now (book .exit)) (r .1) ⌝ }
 {
@@ -94,7 +99,8 @@ fn report(answer: Result<usize, AllocateFault>, note: Record) -> Outcome
 
 pub fn allocate<B: Binder>(book: &mut Book, binder: &B, slip: &Option<Slip>) -> Outcome
     requires { ⌜ Matched (now book) (now slip) ⌝ }
-    ensures { λ r. ⌜ ((k : Carded) → Turn (B·Binder .meaning (now (binder .entry))) k Allocate (view (now (book .entry))) r [] (view (now (book .exit)))) ⌝ }
+    ensures none { λ r. ⌜ count-of r ≡ 0 ⌝ }
+    ensures turn { λ r. ⌜ ((k : Carded) → Turn (B·Binder .meaning (now (binder .entry))) k Allocate (view (now (book .entry))) r [] (view (now (book .exit)))) ⌝ }
 {
     let mut note = Record {
         exposures: 0,
@@ -131,6 +137,7 @@ pub fn settle(
 
 pub fn abandon(book: &mut Book, slip: Option<Slip>) -> (Outcome, Option<Slip>)
     requires { ⌜ Matched (now book) slip ⌝ }
+    ensures none { λ r. ⌜ count-of (r .0) ≡ 0 ⌝ }
     ensures turn { λ r. ⌜ ((m : Meaning) (k : Carded) → Turn m k Abandon (view (now (book .entry))) (r .0) [] (view (now (book .exit)))) ⌝ }
     ensures matched { λ r. ⌜ Matched (now (book .exit)) (r .1) ⌝ }
 {
@@ -140,5 +147,31 @@ pub fn abandon(book: &mut Book, slip: Option<Slip>) -> (Outcome, Option<Slip>)
             Ok(()) => (Outcome::Abandoned, None),
             Err((cause, slip)) => (Outcome::Refused(cause), Some(slip)),
         },
+    }
+}
+
+// Carries out one order. What it writes stands at the start of the list.
+pub fn carry_out<B: Binder>(
+    book: &mut Book,
+    binder: &B,
+    card: &Card,
+    slip: Option<Slip>,
+    order: Order,
+    list: &mut [Instruction],
+) -> (Outcome, Option<Slip>)
+    requires { ⌜ Matched (now book) slip ⌝ }
+    ensures turn { λ r. ⌜ Turn (B·Binder .meaning (now (binder .entry))) (now (card .entry)) order (view (now (book .entry))) (r .0) (take (count-of (r .0)) (now (list .exit))) (view (now (book .exit))) ⌝ }
+    ensures room { λ r. ⌜ count-of (r .0) ≤ length (now (list .entry)) ⌝ }
+    ensures matched { λ r. ⌜ Matched (now (book .exit)) (r .1) ⌝ }
+{
+    match order {
+        Order::Add(place, terms) => (add(book, card, place, terms), slip),
+        Order::Withdraw(place) => (withdraw(book, place), slip),
+        Order::Open(place, amount, schedule) => (open(book, binder, place, amount, schedule), slip),
+        Order::Close(place) => (close(book, place, list), slip),
+        Order::Begin => begin(book, slip),
+        Order::Allocate => (allocate(book, binder, &slip), slip),
+        Order::Settle => settle(book, slip, list),
+        Order::Abandon => abandon(book, slip),
     }
 }

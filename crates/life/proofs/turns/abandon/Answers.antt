@@ -1,4 +1,4 @@
-use mathlib.Core.Path.{_≡_, subst}
+use mathlib.Core.Path.{_≡_, refl, subst}
 use mathlib.Core.Bool.{true}
 use mathlib.Core.List.{[]}
 use Rattle.calls.specs.Call.Call.{abandon}
@@ -12,7 +12,7 @@ pub returns-in-None : need.returns-in-None
 returns-in-None c =
     let s = view (c .args .book .now) in
     let held = subst (λ x. has-slip s x ≡ true) (c .in-None .is) (c .pre) in
-    record { turn = λ m k. idle (λ list note. no-call s (λ n. abandon n) held); matched = held }
+    record { none = refl; turn = λ m k. idle (λ list note. no-call s (λ n. abandon n) held); matched = held }
 
 pub returns-in-Ok : need.returns-in-Ok
 returns-in-Ok c =
@@ -20,6 +20,7 @@ returns-in-Ok c =
     let x = c .in-Some .slip in
     let held = subst (λ x. has-slip s x ≡ true) (c .in-Some .is) (c .pre) in
     record {
+      none = refl;
       turn = λ m k. made [] blank-note (abandon (numbers x)) (slip-call s x (λ n. abandon n) held) _ _ (c .in-Ok .ensures tt m);
       matched = over (view (c .abandon .last .self)) (abandoned-over no-meaning s (view (c .abandon .last .self)) (numbers x) (c .in-Ok .ensures tt no-meaning));
     }
@@ -30,6 +31,7 @@ returns-in-Err c =
     let x = c .in-Some .slip in
     let held = subst (λ x. has-slip s x ≡ true) (c .in-Some .is) (c .pre) in
     record {
+      none = refl;
       turn = λ m k. made [] blank-note (abandon (numbers x)) (slip-call s x (λ n. abandon n) held) _ _ (c .in-Err .ensures tt m);
       matched = abandon-back no-meaning s _ x (c .in-Err .slip) held (c .in-Err .cause) (c .in-Err .ensures tt no-meaning);
     }

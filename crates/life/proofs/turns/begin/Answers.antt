@@ -17,6 +17,7 @@ unreachable-requires c κs =
 pub returns-in-None : need.returns-in-None
 returns-in-None c =
     record {
+      none = refl;
       turn = λ m k. rw (c .run .ensures) (made [] blank-note begin refl _ _ (c .in-Ok .ensures tt m));
       matched = begun-held no-meaning (view (c .args .book .now)) _ (c .in-Ok .new) (c .in-Ok .ensures tt no-meaning);
     }
@@ -25,6 +26,7 @@ pub returns-in-Err : need.returns-in-Err
 returns-in-Err c =
     let same = refused-keeps no-meaning begin (view (c .args .book .now)) _ (c .in-Err .cause) _ (c .in-Err .ensures tt no-meaning) .0 in
     record {
+      none = refl;
       turn = λ m k. made [] blank-note begin refl _ _ (c .in-Err .ensures tt m);
       matched = subst (λ t. has-slip t (c .args .slip) ≡ true) (sym same) (c .pre);
     }
