@@ -13,7 +13,7 @@ use borrow.Author.Tests.{eq-eqb}
 use Rattle.std.specs.declared.option.Option.{Option}
 use Rattle.std.specs.declared.option.Option.the-variants.{None, Some}
 use Rattle.cause.specs.declared.Cause.{Cause}
-use Rattle.cause.specs.declared.Cause.the-variants.{RunOpen, RunsSpent}
+use Rattle.cause.specs.declared.Cause.the-variants.{RunOpen, RunsSpent, SlipStale}
 use Rattle.binder.specs.Meaning.{Meaning}
 use Rattle.curve.specs.declared.card.Card.{Card}
 use Rattle.cover.specs.declared.record.Record.{Record}
@@ -134,13 +134,6 @@ module _ (m : Meaning) (s t : State) (x y : Slip) (held : has-slip s (Some x) �
   pub settle-back : (list list′ : List Instruction) (e : Cause) → Step m (settle (numbers x) list) s (refused e (record { slip = Some (numbers y); list = list′; note = None })) t → has-slip t (Some y) ≡ true
   settle-back list list′ e step =
       let r = refused-keeps m (settle (numbers x) list) s t e _ step in
-      back-held (r .0) (unwrap (ap (λ (b : call.Back). b .slip) (r .1))) where
-        unwrap : {a b : Numbers} → Some a ≡ Some b → a ≡ b
-        unwrap p = cc
-
-  pub abandon-back : (e : Cause) → Step m (abandon (numbers x)) s (refused e (record { slip = Some (numbers y); list = []; note = None })) t → has-slip t (Some y) ≡ true
-  abandon-back e step =
-      let r = refused-keeps m (abandon (numbers x)) s t e _ step in
       back-held (r .0) (unwrap (ap (λ (b : call.Back). b .slip) (r .1))) where
         unwrap : {a b : Numbers} → Some a ≡ Some b → a ≡ b
         unwrap p = cc
@@ -269,3 +262,9 @@ still-held s t (Some x) r h = rw (r .in-run, r .number, r .run) h
 -- an order that is known by an equation
 pub turn-of : {m : Meaning} {k : Card} {o o′ : Order} {s t : State} {r : Outcome} {new : List Instruction} → o ≡ o′ → Turn m k o′ s r new t → Turn m k o s r new t
 turn-of {m} {k} {o} {o′} {s} {t} {r} {new} e turn = subst (λ x. Turn m k x s r new t) (sym e) turn
+
+-- the slip of the open run is never refused for an abandoning
+pub never-stale : (m : Meaning) (s t : State) (x : Slip) → has-slip s (Some x) ≡ true → (e : Cause) (b : call.Back) → Step m (abandon (numbers x)) s (refused e b) t → ⊥
+never-stale m s t x held e b step =
+    let free : cause m s (abandon (numbers x)) ≡ None = ap (λ v. call.first (not v) SlipStale None) held in
+    never-refused m (abandon (numbers x)) s t e b (subst (λ v. Decided v m (abandon (numbers x)) s (refused e b) t) free step)

@@ -4,11 +4,12 @@
 ghost use mathlib.Core.Path.{_≡_};
 ghost use mathlib.Core.List.{[]};
 ghost use Prim.Native.Nat.{_≤_};
-ghost use lib.ListN.{length, take};
+ghost use lib.ListN.{length, take, drop};
+ghost use Rattle.std.specs.declared.option.Option.the-variants.{None};
 ghost use Rattle.binder.specs.Meaning.{Meaning};
 ghost use Rattle.curve.specs.declared.card.Card.{Card as Carded};
 ghost use Rattle.book.specs.View.{view};
-ghost use Rattle.life.specs.Turn.{Turn, count-of};
+ghost use Rattle.life.specs.Turn.{Turn, Played, count-of};
 ghost use Rattle.life.specs.Matched.{Matched};
 ghost use Rattle.life.specs.Reported.{reported};
 ghost use Rattle.life.specs.declared.order.Order.the-variants.{Add, Withdraw, Open, Close, Begin, Allocate, Settle, Abandon};
@@ -140,6 +141,7 @@ pub fn abandon(book: &mut Book, slip: Option<Slip>) -> (Outcome, Option<Slip>)
     ensures none { λ r. ⌜ count-of (r .0) ≡ 0 ⌝ }
     ensures turn { λ r. ⌜ ((m : Meaning) (k : Carded) → Turn m k Abandon (view (now (book .entry))) (r .0) [] (view (now (book .exit)))) ⌝ }
     ensures matched { λ r. ⌜ Matched (now (book .exit)) (r .1) ⌝ }
+    ensures gone { λ r. ⌜ r .1 ≡ None ⌝ }
 {
     match slip {
         None => (Outcome::NoSlip, None),
@@ -174,4 +176,43 @@ pub fn carry_out<B: Binder>(
         Order::Settle => settle(book, slip, list),
         Order::Abandon => abandon(book, slip),
     }
+}
+
+// How many instructions an outcome tells of.
+fn count(outcome: Outcome) -> usize
+    ensures { λ r. ⌜ r ≡ count-of outcome ⌝ }
+{
+    match outcome {
+        Outcome::Closed(n) | Outcome::Settled(n) => n,
+        _ => 0,
+    }
+}
+
+// Carries out orders one after the other, as many as there are places for outcomes. The instructions
+// go into the journal one after the other; returns the slip that is held then, and how many there are.
+pub fn carry_out_all<B: Binder>(
+    book: &mut Book,
+    binder: &B,
+    card: &Card,
+    slip: Option<Slip>,
+    orders: &[Order],
+    outcomes: &mut [Outcome],
+    journal: &mut [Instruction],
+) -> (Option<Slip>, usize)
+    requires { ⌜ Matched (now book) slip ⌝ }
+    ensures played { λ r. ⌜ Played (B·Binder .meaning (now (binder .entry))) (now (card .entry)) (view (now (book .entry))) (take (length (now (outcomes .entry))) (now (orders .entry))) (take (length (now (orders .entry))) (now (outcomes .exit))) (take (r .1) (now (journal .exit))) (view (now (book .exit))) ⌝ }
+    ensures rest { λ _. ⌜ drop (length (now (orders .entry))) (now (outcomes .exit)) ≡ drop (length (now (orders .entry))) (now (outcomes .entry)) ⌝ }
+    ensures room { λ r. ⌜ r .1 ≤ length (now (journal .entry)) ⌝ }
+    ensures matched { λ r. ⌜ Matched (now (book .exit)) (r .0) ⌝ }
+{
+    let n = orders.len().min(outcomes.len());
+    let mut slip = slip;
+    let mut used = 0;
+    for i in 0..n {
+        let (outcome, next) = carry_out(book, binder, card, slip, orders[i], &mut journal[used..]);
+        slip = next;
+        used += count(outcome);
+        outcomes[i] = outcome;
+    }
+    (slip, used)
 }

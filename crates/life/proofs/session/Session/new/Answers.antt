@@ -1,7 +1,6 @@
-use mathlib.Core.Path.{_≡_, refl, sym, subst}
-use mathlib.Core.List.{[]}
-use Rattle.calls.specs.Life.{Life, opened}
+use mathlib.Core.Path.{refl}
+use Rattle.calls.specs.Life.{opened}
 use Rattle.life.proofs.session.Session.new.Needs as need
 
 pub returns : need.returns
-returns g c = (refl, refl, rw (c .new .ensures) opened)
+returns g c = record { same = (refl, refl); life = rw (c .new-book .ensures) opened }
