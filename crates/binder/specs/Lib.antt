@@ -1,0 +1,6 @@
+pub mod Meaning
+pub mod Layers
+pub mod Issuers
+pub mod Switch
+pub mod Rating
+pub mod Laws

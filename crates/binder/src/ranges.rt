@@ -1,0 +1,28 @@
+// The ranges that a lot's fields, a share and a class's limit are held against.
+
+ghost use mathlib.Core.Path.{_≡_};
+ghost use Prim.Native.Nat.{_≤_};
+ghost use Rattle.std.specs.Orderings.{Decides};
+ghost use Rattle.binder.specs.Meaning.{in-range};
+ghost use Rattle.binder.specs.Rating.{Limits-in-range};
+use crate::limit::ClassLimit;
+use grammar::Description;
+
+// Whether the fields can be those of a lot.
+pub fn is_lot(lot: Description) -> bool
+    ensures { λ r. ⌜ r ≡ in-range lot ⌝ }
+{
+    lot.class <= 7 && lot.rating >= 1 && lot.rating <= 22 && lot.months <= 1200 && lot.issuer <= 255
+}
+
+// Whether every class has its limit in range.
+pub fn are_limits(limits: &[ClassLimit; 8]) -> bool
+    ensures { λ r. ⌜ Decides r (Limits-in-range (now (limits .entry))) ⌝ }
+{
+    for limit in limits {
+        if limit.worst > 22 || limit.longest > 1200 {
+            return false;
+        }
+    }
+    true
+}

@@ -1,0 +1,8 @@
+use mathlib.Core.Path.{_≡_}
+use Prim.Native.Nat.{_≤_}
+use Rattle.calls.specs.State.{held-at}
+use Rattle.calls.specs.Call.{count}
+use Rattle.book.proofs.pledges.held_lots.Given as given
+
+abbrev pub Inv-loop-l : given.InvT-loop-l
+Inv-loop-l v = (v .n ≡ count (v .l) (held-at (v .lots))) × (v .n ≤ v .l)

@@ -1,0 +1,7 @@
+use mathlib.Core.Path.{_≡_}
+use lib.ListN.{length}
+use Rattle.calls.specs.Step.{zeroed}
+use Rattle.book.proofs.pledges.zero_column.Given as given
+
+abbrev pub Inv-loop-l : given.InvT-loop-l
+Inv-loop-l v = v .pledges ≡ zeroed (v .entry .pledges) (v .exposure) (v .l)

@@ -1,0 +1,9 @@
+pub mod Causes
+pub mod Sizes
+pub mod Histories
+pub mod Lawful
+pub mod Zeroed
+pub mod Tallies
+pub mod Flows
+pub mod Allocations
+pub mod Lives

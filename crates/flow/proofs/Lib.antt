@@ -1,0 +1,6 @@
+pub mod Lists
+pub mod Bfs
+pub mod Nearer
+pub mod Blocking
+pub mod Sending
+pub mod Running

@@ -1,0 +1,5 @@
+pub mod Lists
+pub mod Lawful
+pub mod Search
+pub mod Blocking
+pub mod Solved

@@ -1,0 +1,4 @@
+pub mod Unique
+pub mod Joining
+pub mod Parts
+pub mod Figured

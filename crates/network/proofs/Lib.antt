@@ -1,0 +1,10 @@
+pub mod Sums
+pub mod Duality
+pub mod Residual
+pub mod Layers
+pub mod Cut
+pub mod Augment
+pub mod Maximum
+pub mod Blocking
+pub mod Rounds
+pub mod Same

@@ -1,0 +1,13 @@
+pub mod Sums
+pub mod Slots
+pub mod Arcs
+pub mod Nodes
+pub mod Balance
+pub mod Tables
+pub mod Maximum
+pub mod Reach
+pub mod Record
+pub mod Outcome
+pub mod Agreement
+pub mod Listing
+pub mod Paths
