@@ -1,0 +1,72 @@
+// How many trials there were, and how many came out as expected.
+
+use rule::Rule;
+use std::io;
+
+#[derive(Clone, Copy)]
+pub struct Tally {
+    tried: u32,
+    right: u32,
+}
+
+impl Tally {
+    pub fn new() -> Tally {
+        Tally { tried: 0, right: 0 }
+    }
+
+    pub fn note(&mut self, right: bool) {
+        self.tried = self.tried.saturating_add(1);
+        if right {
+            self.right = self.right.saturating_add(1);
+        }
+    }
+
+    pub fn report(&self, rt: &LibcRuntime, what: &str) -> io::Result<()> {
+        let tried = self.tried;
+        let right = self.right;
+        println!(rt, "{what}: {tried} tried, {right} as expected")
+    }
+}
+
+// What became of a text: the cause's number and the place of its fault, or 0 and 0 where it was
+// accepted.
+#[derive(Clone, Copy)]
+pub struct Outcome {
+    pub cause: u8,
+    pub place: usize,
+}
+
+pub const ACCEPTED: Outcome = Outcome { cause: 0, place: 0 };
+
+impl Outcome {
+    pub fn same(self, other: Outcome) -> bool {
+        self.cause == other.cause && self.place == other.place
+    }
+}
+
+pub fn load(rule: &mut Rule, text: &[u8]) -> Outcome {
+    match rule.load(text) {
+        Ok(()) => ACCEPTED,
+        Err(fault) => Outcome {
+            cause: fault.cause.number(),
+            place: fault.place,
+        },
+    }
+}
+
+// A text that came out otherwise.
+pub fn complain(rt: &LibcRuntime, text: &[u8], want: Outcome, got: Outcome) -> io::Result<()> {
+    for byte in text {
+        let c = if *byte >= 32 && *byte < 127 {
+            *byte as char
+        } else {
+            '?'
+        };
+        print!(rt, "{c}")?;
+    }
+    let cause = want.cause;
+    let place = want.place;
+    let found = got.cause;
+    let at = got.place;
+    println!(rt, ": {cause} at {place} expected, {found} at {at} found")
+}
