@@ -5,7 +5,7 @@ ghost use Prim.Native.Nat.{_≤_};
 ghost use lib.ListN.{length};
 use crate::levels::Level;
 
-pub mod stack;
+pub mod nesting;
 
 #[derive(Clone, Copy)]
 pub struct Brackets {

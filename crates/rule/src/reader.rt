@@ -3,10 +3,10 @@
 ghost use mathlib.Core.Path.{_≡_};
 ghost use mathlib.Core.Bool.{true, false, _&&_};
 ghost use mathlib.Core.List.{[], _∷_, _++_};
-ghost use Prim.Native.Nat.{_+_, _≤_, _<_};
+ghost use Prim.Native.Nat.{_+_, _≤_};
 ghost use lib.Dec.{eqb};
 ghost use lib.ListN.{length};
-ghost use Rattle.rule.specs.Machine.{bit, wait, waits, weight, closed, leads, follows, next, settle as settled, start, in-test};
+ghost use Rattle.rule.specs.Machine.{bit, wait, weight, closed, leads, follows, next, settle as settled, start};
 ghost use Rattle.rule.specs.Marks.{opens, steps};
 ghost use Rattle.rule.specs.Marks.{mark-of};
 ghost use Rattle.rule.specs.Reads.{Becomes, judgement, ends, Taken, Concluded, Read};

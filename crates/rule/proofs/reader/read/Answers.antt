@@ -1,4 +1,4 @@
-use mathlib.Core.Path.{_≡_, refl, sym, subst, _∙_}
+use mathlib.Core.Path.{refl, sym, subst, _∙_}
 use native.Mathlib.Omega.{arith}
 use lib.Dec.{eqb}
 use lib.ListN.{length}
@@ -7,7 +7,7 @@ use Rattle.std.proofs.shelf.Tests.{and-parts, eqb-true, ltb-true, ltb-false}
 use Rattle.rule.specs.Reads.{ends}
 use Rattle.rule.specs.Views.{waiting}
 use Rattle.rule.proofs.Passing.{least-long}
-use Rattle.rule.proofs.Reading.{Reading, Judged, reading-none, reading-more, room, judged, allowed-if, bad-end, granted}
+use Rattle.rule.proofs.Reading.{Judged, reading-none, reading-more, room, judged, allowed-if, bad-end, granted}
 use Rattle.rule.proofs.reader.read.Needs as need
 
 pub returns-then-too-long : need.returns-then-too-long

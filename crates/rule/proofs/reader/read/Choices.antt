@@ -1,6 +1,3 @@
-use mathlib.Core.Path.{_≡_}
-use Prim.Native.Nat.{_≤_}
-use lib.ListN.{length}
 use Rattle.rule.specs.Views.{waiting, code}
 use Rattle.rule.proofs.Reading.{Reading}
 use Rattle.rule.proofs.reader.read.Given as given

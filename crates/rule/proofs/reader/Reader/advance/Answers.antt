@@ -1,9 +1,7 @@
-use mathlib.Core.Path.{_≡_, sym, ap, subst, _∙_}
-use mathlib.Core.Bool.{true}
+use mathlib.Core.Path.{_≡_, sym, ap, _∙_}
 use mathlib.Core.List.{[], _∷_, _++_}
 use native.Mathlib.Omega.{arith}
 use lib.ListN.{length, length-append}
-use Rattle.rule.specs.declared.levels.Mode.the-variants.{Counting}
 use Rattle.rule.specs.declared.marks.Mark.the-variants.{Follow}
 use Rattle.rule.specs.declared.steps.Step.the-variants.{Test}
 use Rattle.rule.specs.Machine.{bit, rested, finished, in-test, wait}

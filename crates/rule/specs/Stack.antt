@@ -1,6 +1,6 @@
--- A device of the proofs: what steps do to a pile of answers. The pile is the bits of a number, the last answer lowest.
+-- A device of the proofs: what steps do to a stack of answers. The stack is the bits of a number, the last answer lowest.
 
-use mathlib.Core.Bool.{Bool, true, false, not, cond, _&&_, _||_}
+use mathlib.Core.Bool.{Bool, not, cond, _&&_, _||_}
 use mathlib.Core.List.{List, [], _∷_}
 use Prim.Native.Nat.{ℕ, _+_, _*_, _/_, _%_}
 use lib.Dec.{eqb}

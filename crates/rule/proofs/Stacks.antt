@@ -1,12 +1,10 @@
--- The pile of answers as a number: what is put on it comes off again, and i steps leave it below 2 to the i-th.
+-- The stack of answers as a number: what is put on it comes off again, and i steps leave it below 2 to the i-th.
 
-use mathlib.Core.Path.{_≡_, refl, sym, ap, subst, _∙_}
-use mathlib.Core.Bool.{Bool, true, false, not, cond, _&&_, _||_}
+use mathlib.Core.Path.{_≡_, refl, ap, _∙_}
+use mathlib.Core.Bool.{Bool, true, false, not, _&&_, _||_}
 use mathlib.Core.List.{List, [], _∷_, _++_}
-use Prim.Native.Nat.{ℕ, suc, _+_, _-_, _*_, _/_, _%_, _^_, _<_, _≤_}
+use Prim.Native.Nat.{ℕ, _+_, _*_, _/_, _^_, _<_}
 use native.Mathlib.Omega.{arith}
-use native.Mathlib.Numerals.{add-one}
-use lib.Dec.{eqb}
 use lib.ListN.{length, take, getD}
 use lib.Pow.{pow-add}
 use Rattle.std.proofs.shelf.Lists.{take-more}
@@ -15,7 +13,7 @@ use Rattle.grammar.specs.declared.Description.{Description}
 use Rattle.grammar.specs.Grammar.{field, compares}
 use Rattle.rule.specs.declared.steps.Step.{Step}
 use Rattle.rule.specs.declared.steps.Step.the-variants.{Test, Negate, Both, Either}
-use Rattle.rule.specs.Pile.{onto, top, act, acts}
+use Rattle.rule.specs.Stack.{onto, top, act, acts}
 
 pub top-onto : (a : Bool) (p : ℕ) → top (onto a p) ≡ a
 top-onto true p = eq-eqb _ 1 (omega arith)
