@@ -9,7 +9,7 @@ use native.Mathlib.Numerals.{add-one}
 use lib.ListN.{length, getD, set, length-append}
 use lib.Seq.{getD-set-same, getD-set-other}
 use Rattle.rule.specs.declared.steps.Step.{Step}
-use Rattle.rule.specs.declared.levels.Level.{Level}
+use Rattle.rule.specs.declared.text.Level.{Level}
 use Rattle.rule.specs.declared.steps.Step.the-variants.{Negate, Both, Either}
 use Rattle.rule.specs.Machine.{fresh, bit, step-if, finished, ended}
 use Rattle.rule.specs.Views.{levels}

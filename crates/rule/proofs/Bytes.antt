@@ -12,10 +12,10 @@ use Rattle.grammar.specs.declared.Field.the-variants.{Class, Rating, Months, Is
 use Rattle.grammar.specs.declared.Sign.{Sign}
 use Rattle.grammar.specs.declared.Sign.the-variants.{Equal, Less, Greater}
 use Rattle.grammar.specs.Grammar.{digit, letter, sign, step}
-use Rattle.rule.specs.declared.marks.Lead.the-variants.{Letter, Not, Open}
-use Rattle.rule.specs.declared.marks.Follow.the-variants.{And, Or, Close}
-use Rattle.rule.specs.declared.marks.Mark.{Mark}
-use Rattle.rule.specs.declared.marks.Mark.the-variants.{Lead as Leads, Compare, Digit, Follow as Follows, Other}
+use Rattle.rule.specs.declared.text.Lead.the-variants.{Letter, Not, Open}
+use Rattle.rule.specs.declared.text.Follow.the-variants.{And, Or, Close}
+use Rattle.rule.specs.declared.text.Mark.{Mark}
+use Rattle.rule.specs.declared.text.Mark.the-variants.{Lead as Leads, Compare, Digit, Follow as Follows, Other}
 use Rattle.rule.specs.Marks.{mark-of, steps, opens, closes}
 
 pub mark-letter : (f : Field) → mark-of (letter f) ≡ Leads (Letter f)

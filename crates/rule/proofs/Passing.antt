@@ -24,11 +24,11 @@ use Rattle.grammar.specs.Grammar.{digit, leading, Digits, letter, sign, digits,
 use Rattle.grammar.specs.Grammar.Digits.{none, more}
 use Rattle.grammar.specs.Grammar.Number.{nought, figures}
 use Rattle.grammar.specs.Grammar.Fault.{long, unexpected, ended, over, deep, steps}
-use Rattle.rule.specs.declared.marks.Lead.the-variants.{Letter}
-use Rattle.rule.specs.declared.marks.Mark.the-variants.{Lead as Leads, Compare}
+use Rattle.rule.specs.declared.text.Lead.the-variants.{Letter}
+use Rattle.rule.specs.declared.text.Mark.the-variants.{Lead as Leads, Compare}
 use Rattle.rule.specs.declared.steps.Step.{Step}
-use Rattle.rule.specs.declared.levels.Level.{Level}
-use Rattle.rule.specs.declared.levels.Mode.the-variants.{Want, Named, Signed, Counting, Done}
+use Rattle.rule.specs.declared.text.Level.{Level}
+use Rattle.rule.specs.declared.text.Mode.the-variants.{Want, Named, Signed, Counting, Done}
 use Rattle.rule.specs.Machine.{State, next, scan, start}
 use Rattle.rule.specs.Machine.State.{dead, at}
 use Rattle.rule.proofs.Bytes.{mark-digit}

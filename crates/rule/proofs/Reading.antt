@@ -24,15 +24,15 @@ use Rattle.std.proofs.shelf.Ways.{tells}
 use Rattle.cause.specs.Numbers.{number as listed}
 use Rattle.grammar.specs.Grammar.{digit, longest, largest, deepest, most-steps, count, step, IsRule, Least}
 use Rattle.rule.specs.declared.fault.TextFault.{TextFault}
-use Rattle.rule.specs.declared.marks.Lead.the-variants.{Letter, Not, Open}
-use Rattle.rule.specs.declared.marks.Follow.{Follow}
-use Rattle.rule.specs.declared.marks.Follow.the-variants.{And, Or, Close}
-use Rattle.rule.specs.declared.marks.Mark.{Mark}
-use Rattle.rule.specs.declared.marks.Mark.the-variants.{Lead as Leads, Compare, Digit, Follow as Follows, Other}
+use Rattle.rule.specs.declared.text.Lead.the-variants.{Letter, Not, Open}
+use Rattle.rule.specs.declared.text.Follow.{Follow}
+use Rattle.rule.specs.declared.text.Follow.the-variants.{And, Or, Close}
+use Rattle.rule.specs.declared.text.Mark.{Mark}
+use Rattle.rule.specs.declared.text.Mark.the-variants.{Lead as Leads, Compare, Digit, Follow as Follows, Other}
 use Rattle.rule.specs.declared.steps.Step.{Step}
-use Rattle.rule.specs.declared.levels.Level.{Level}
-use Rattle.rule.specs.declared.levels.Mode.{Mode}
-use Rattle.rule.specs.declared.levels.Mode.the-variants.{Want, Named, Signed, Counting, Done}
+use Rattle.rule.specs.declared.text.Level.{Level}
+use Rattle.rule.specs.declared.text.Mode.{Mode}
+use Rattle.rule.specs.declared.text.Mode.the-variants.{Want, Named, Signed, Counting, Done}
 use Rattle.rule.specs.Marks.{mark-of, steps, opens}
 use Rattle.rule.specs.Refusing.{expects, is-follow, large, verdict, Allowed, first-digit}
 use Rattle.rule.specs.Machine.{State, rested, bit, next, scan, start, settle, weight, ended}

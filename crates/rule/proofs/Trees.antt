@@ -20,14 +20,14 @@ use Rattle.grammar.specs.Grammar.Digits.{none, more}
 use Rattle.grammar.specs.Grammar.Number.{nought, figures}
 use Rattle.grammar.specs.Grammar.Sort.{rule, term, factor}
 use Rattle.grammar.specs.Grammar.Tree.{one, or, sole, and, neg, group, test}
-use Rattle.rule.specs.declared.marks.Lead.the-variants.{Letter}
-use Rattle.rule.specs.declared.marks.Follow.{Follow}
-use Rattle.rule.specs.declared.marks.Follow.the-variants.{And, Or, Close}
-use Rattle.rule.specs.declared.marks.Mark.the-variants.{Lead as Leads, Compare, Follow as Follows}
+use Rattle.rule.specs.declared.text.Lead.the-variants.{Letter}
+use Rattle.rule.specs.declared.text.Follow.{Follow}
+use Rattle.rule.specs.declared.text.Follow.the-variants.{And, Or, Close}
+use Rattle.rule.specs.declared.text.Mark.the-variants.{Lead as Leads, Compare, Follow as Follows}
 use Rattle.rule.specs.declared.steps.Step.{Step}
 use Rattle.rule.specs.declared.steps.Step.the-variants.{Test, Negate, Both, Either}
-use Rattle.rule.specs.declared.levels.Level.{Level}
-use Rattle.rule.specs.declared.levels.Mode.the-variants.{Want, Named, Signed, Counting, Done}
+use Rattle.rule.specs.declared.text.Level.{Level}
+use Rattle.rule.specs.declared.text.Mode.the-variants.{Want, Named, Signed, Counting, Done}
 use Rattle.rule.specs.Marks.{mark-of}
 use Rattle.rule.specs.Stack.{onto, top, acts}
 use Rattle.rule.specs.Machine.{State, fresh, rested, step-if, ended, closed, next, scan, start, settle}

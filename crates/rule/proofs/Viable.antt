@@ -22,10 +22,10 @@ use Rattle.grammar.specs.Grammar.Number.{nought, figures}
 use Rattle.grammar.specs.Grammar.Sort.{rule, factor}
 use Rattle.grammar.specs.Grammar.Tree.{one, or, sole, and, neg, group, test}
 use Rattle.grammar.proofs.Joining.{either, either-spelled, both, both-spelled}
-use Rattle.rule.specs.declared.marks.Mark.{Mark}
+use Rattle.rule.specs.declared.text.Mark.{Mark}
 use Rattle.rule.specs.declared.steps.Step.{Step}
-use Rattle.rule.specs.declared.levels.Level.{Level}
-use Rattle.rule.specs.declared.levels.Mode.the-variants.{Want, Named, Signed, Counting, Done}
+use Rattle.rule.specs.declared.text.Level.{Level}
+use Rattle.rule.specs.declared.text.Mode.the-variants.{Want, Named, Signed, Counting, Done}
 use Rattle.rule.specs.Marks.{mark-of}
 use Rattle.rule.specs.Refusing.{first-digit}
 use Rattle.rule.specs.Machine.{State, next, scan, start, settle}

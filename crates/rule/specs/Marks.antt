@@ -6,10 +6,10 @@ use lib.Dec.{eqb}
 use Rattle.grammar.specs.declared.Field.the-variants.{Class, Rating, Months, Issuer}
 use Rattle.grammar.specs.declared.Sign.the-variants.{Equal, Less, Greater}
 use Rattle.grammar.specs.Grammar.{digit}
-use Rattle.rule.specs.declared.marks.Lead.the-variants.{Letter, Not, Open}
-use Rattle.rule.specs.declared.marks.Follow.the-variants.{And, Or, Close}
-use Rattle.rule.specs.declared.marks.Mark.{Mark}
-use Rattle.rule.specs.declared.marks.Mark.the-variants.{Lead as Leads, Compare, Digit, Follow as Follows, Other}
+use Rattle.rule.specs.declared.text.Lead.the-variants.{Letter, Not, Open}
+use Rattle.rule.specs.declared.text.Follow.the-variants.{And, Or, Close}
+use Rattle.rule.specs.declared.text.Mark.{Mark}
+use Rattle.rule.specs.declared.text.Mark.the-variants.{Lead as Leads, Compare, Digit, Follow as Follows, Other}
 
 abbrev pub mark-of : ℕ → Mark
 mark-of b =

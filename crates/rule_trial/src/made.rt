@@ -1,12 +1,12 @@
 // Texts made from a seed: the rule's outcome and answers against those of the second method.
 
 ghost use Prim.Native.Nat.{_≤_};
+use crate::Outcome;
+use crate::Tally;
+use crate::complain;
 use crate::descent::judged;
 use crate::descent::whole;
-use crate::tally::Outcome;
-use crate::tally::Tally;
-use crate::tally::complain;
-use crate::tally::load;
+use crate::load;
 use grammar::Description;
 use rule::Rule;
 use std::alloc::AllocError;

@@ -1,10 +1,10 @@
 // Texts whose outcomes were worked out by hand.
 
-use crate::tally::ACCEPTED;
-use crate::tally::Outcome;
-use crate::tally::Tally;
-use crate::tally::complain;
-use crate::tally::load;
+use crate::ACCEPTED;
+use crate::Outcome;
+use crate::Tally;
+use crate::complain;
+use crate::load;
 use grammar::Description;
 use rule::Rule;
 use std::alloc::AllocError;

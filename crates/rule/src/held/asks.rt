@@ -6,10 +6,10 @@ ghost use Rattle.rule.specs.Says.{says, Loaded};
 ghost use Rattle.rule.specs.Views.{code};
 use crate::fault::TextFault;
 use crate::held::Rule;
-use crate::reader::read;
 use crate::steps::Step;
 use crate::steps::act;
 use crate::steps::top;
+use crate::text::reader::read;
 use grammar::Description;
 
 impl Rule {

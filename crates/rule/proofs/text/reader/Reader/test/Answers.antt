@@ -4,7 +4,7 @@ use native.Mathlib.Omega.{arith}
 use lib.ListN.{length, length-append}
 use Rattle.rule.specs.declared.steps.Step.the-variants.{Test}
 use Rattle.rule.specs.Views.{code}
-use Rattle.rule.proofs.reader.Reader.test.Needs as need
+use Rattle.rule.proofs.text.reader.Reader.test.Needs as need
 
 pub complete-requires : need.complete-requires
 complete-requires c κs =

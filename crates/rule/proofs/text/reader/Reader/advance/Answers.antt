@@ -2,13 +2,13 @@ use mathlib.Core.Path.{_≡_, sym, ap, _∙_}
 use mathlib.Core.List.{[], _∷_, _++_}
 use native.Mathlib.Omega.{arith}
 use lib.ListN.{length, length-append}
-use Rattle.rule.specs.declared.marks.Mark.the-variants.{Follow}
+use Rattle.rule.specs.declared.text.Mark.the-variants.{Follow}
 use Rattle.rule.specs.declared.steps.Step.the-variants.{Test}
 use Rattle.rule.specs.Machine.{bit, rested, finished, in-test, wait}
 use Rattle.rule.specs.Refusing.{expects, is-follow}
 use Rattle.rule.specs.Views.{code, waiting}
 use Rattle.rule.proofs.Arrays.{finished-length}
-use Rattle.rule.proofs.reader.Reader.advance.Needs as need
+use Rattle.rule.proofs.text.reader.Reader.advance.Needs as need
 
 pub follow-requires : need.follow-requires
 follow-requires c κs =

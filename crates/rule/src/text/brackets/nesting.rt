@@ -3,8 +3,8 @@ ghost use mathlib.Core.List.{[], _∷_};
 ghost use Prim.Native.Nat.{_<_};
 ghost use lib.ListN.{length};
 ghost use Rattle.rule.specs.Views.{waiting};
-use crate::brackets::Brackets;
-use crate::levels::Level;
+use crate::text::Level;
+use crate::text::brackets::Brackets;
 
 impl Brackets {
     pub fn none() -> Brackets

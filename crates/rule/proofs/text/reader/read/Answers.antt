@@ -8,7 +8,7 @@ use Rattle.rule.specs.Reads.{ends}
 use Rattle.rule.specs.Views.{waiting}
 use Rattle.rule.proofs.Passing.{least-long}
 use Rattle.rule.proofs.Reading.{Judged, reading-none, reading-more, room, judged, allowed-if, bad-end, granted}
-use Rattle.rule.proofs.reader.read.Needs as need
+use Rattle.rule.proofs.text.reader.read.Needs as need
 
 pub returns-then-too-long : need.returns-then-too-long
 returns-then-too-long c = least-long (c .args .text .now) (ltb-true 1024 (length (c .args .text .now)) (sym (c .too-long .ensures) ∙ c .if-too-long .taken))

@@ -6,7 +6,7 @@ use Rattle.rule.specs.Marks.{steps, opens}
 use Rattle.rule.specs.Views.{waiting}
 use Rattle.rule.proofs.Arrays.{levels-length}
 use Rattle.rule.proofs.Reading.{allowed-if, within}
-use Rattle.rule.proofs.reader.Reader.take.Needs as need
+use Rattle.rule.proofs.text.reader.Reader.take.Needs as need
 
 pub advance-requires : need.advance-requires
 advance-requires c κs =

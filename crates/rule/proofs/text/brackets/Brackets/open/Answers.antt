@@ -1,6 +1,6 @@
 use native.Mathlib.Omega.{arith}
 use Rattle.rule.proofs.Arrays.{levels-length, levels-more}
-use Rattle.rule.proofs.brackets.Brackets.open.Needs as need
+use Rattle.rule.proofs.text.brackets.Brackets.open.Needs as need
 
 pub returns : need.returns
 returns c =

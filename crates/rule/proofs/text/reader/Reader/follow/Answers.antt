@@ -4,7 +4,7 @@ use lib.ListN.{length}
 use Rattle.rule.specs.Machine.{wait}
 use Rattle.rule.specs.Views.{code}
 use Rattle.rule.proofs.Arrays.{ended-length}
-use Rattle.rule.proofs.reader.Reader.follow.Needs as need
+use Rattle.rule.proofs.text.reader.Reader.follow.Needs as need
 
 pub complete-requires : need.complete-requires
 complete-requires c κs =
