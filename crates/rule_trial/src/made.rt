@@ -111,21 +111,22 @@ fn write(seed: &mut Seed, text: &mut Vec<u8>, level: u8, fuel: u32) -> Result<()
     write_number(seed, text)
 }
 
+fn push_times(text: &mut Vec<u8>, byte: u8, times: u64) -> Result<(), AllocError> {
+    for _ in 0..times {
+        text.push(byte)?;
+    }
+    Ok(())
+}
+
 // A rule within so many brackets and after so many `!`.
 fn wrapped(heap: Global, seed: &mut Seed, fuel: u32) -> Result<Vec<u8>, AllocError> {
     let mut text = Vec::new(heap);
     let brackets = if seed.chance(25) { seed.below(20) } else { 0 };
     let nots = if seed.chance(25) { seed.below(70) } else { 0 };
-    for _ in 0..nots {
-        text.push(b'!')?;
-    }
-    for _ in 0..brackets {
-        text.push(b'(')?;
-    }
+    push_times(&mut text, b'!', nots)?;
+    push_times(&mut text, b'(', brackets)?;
     write(seed, &mut text, 0, fuel)?;
-    for _ in 0..brackets {
-        text.push(b')')?;
-    }
+    push_times(&mut text, b')', brackets)?;
     Ok(text)
 }
 
@@ -153,13 +154,9 @@ fn long_text(heap: Global, seed: &mut Seed) -> Result<Vec<u8>, AllocError> {
     let enough = 850 + seed.below(200) as usize;
     for _ in 0..64 {
         let depth = 14 + seed.below(3);
-        for _ in 0..depth {
-            text.push(b'(')?;
-        }
+        push_times(&mut text, b'(', depth)?;
         write(seed, &mut text, 2, 0)?;
-        for _ in 0..depth {
-            text.push(b')')?;
-        }
+        push_times(&mut text, b')', depth)?;
         if text.len() >= enough {
             break;
         }
@@ -221,6 +218,14 @@ impl Met {
     }
 }
 
+// One text in both ways.
+fn trial(seed: &mut Seed, text: &[u8], want: Outcome) -> (Outcome, bool) {
+    let mut rule = Rule::blank();
+    let got = load(&mut rule, text);
+    let right = got.same(want) && (want.cause != 0 || same_answers(seed, &rule, text));
+    (got, right)
+}
+
 pub fn compare(rt: &LibcRuntime) -> io::Result<()> {
     let mut seed = Seed {
         state: 0x9e37_79b9_7f4a_7c15,
@@ -229,13 +234,8 @@ pub fn compare(rt: &LibcRuntime) -> io::Result<()> {
     let mut met = Met { seen: [false; 6] };
     for turn in 0..TEXTS {
         let text = text_of(rt.alloc(), &mut seed, turn)?;
-        let mut rule = Rule::blank();
         let want = judged(text.as_slice());
-        let got = load(&mut rule, text.as_slice());
-        let mut right = got.same(want);
-        if right && want.cause == 0 {
-            right = same_answers(&mut seed, &rule, text.as_slice());
-        }
+        let (got, right) = trial(&mut seed, text.as_slice(), want);
         met.note(got);
         texts.note(right);
         if !right {

@@ -146,18 +146,33 @@ fn kinds(
     Ok(())
 }
 
-pub fn outcomes(rt: &LibcRuntime) -> io::Result<()> {
-    let mut tally = Tally::new();
+fn after_beginnings(rt: &LibcRuntime, tally: &mut Tally) -> io::Result<()> {
     for (beginning, outcomes) in AFTER {
-        kinds(rt, &mut tally, beginning, outcomes)?;
+        kinds(rt, tally, beginning, outcomes)?;
     }
+    Ok(())
+}
+
+fn short_texts(rt: &LibcRuntime, tally: &mut Tally) -> io::Result<()> {
     for (text, cause, place) in SHORT {
-        row(rt, &mut tally, text, at(cause, place))?;
+        row(rt, tally, text, at(cause, place))?;
     }
+    Ok(())
+}
+
+fn long_texts(rt: &LibcRuntime, tally: &mut Tally) -> io::Result<()> {
     for (first, second, third, cause, place) in LONG {
         let text = joined(rt.alloc(), first, second, third)?;
-        row(rt, &mut tally, text.as_slice(), at(cause, place))?;
+        row(rt, tally, text.as_slice(), at(cause, place))?;
     }
+    Ok(())
+}
+
+pub fn outcomes(rt: &LibcRuntime) -> io::Result<()> {
+    let mut tally = Tally::new();
+    after_beginnings(rt, &mut tally)?;
+    short_texts(rt, &mut tally)?;
+    long_texts(rt, &mut tally)?;
     tally.report(rt, "texts")
 }
 
