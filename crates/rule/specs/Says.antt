@@ -31,6 +31,6 @@ abbrev pub Loaded : List ℕ → Rule → Rule → Result (Unit {0}) TextFault �
 Loaded t before after (Ok u) = Accepted t (says after)
 Loaded t before after (Err e) = Least t (listed (e .cause)) (e .place) × (after ≡ before)
 
--- every text is accepted with one meaning or has a least fault
+-- every text is accepted with a meaning, or has a least fault
 abbrev pub Decided : Type 0
 Decided = (t : List ℕ) → ((f : Description → Bool) × Accepted t f) ⊎ ((c : ℕ) × (k : ℕ) × Least t c k)

@@ -9,7 +9,9 @@ ghost use Prim.Native.Nat.{_≤_, _+_};
 ghost use lib.Dec.{eqb, ltb};
 ghost use lib.ListN.{length};
 ghost use Rattle.grammar.specs.Grammar.{deepest, longest, most-steps};
-ghost use Rattle.rule.specs.Refusing.{expects, is-follow, large as exceeds, first-digit};
+ghost use Rattle.rule.specs.Refusing.{expects, is-follow, large as exceeds, first-digit, fault as refusal};
+use crate::fault::TextFault;
+use cause::Cause;
 use grammar::Field;
 use grammar::Sign;
 
@@ -114,9 +116,9 @@ impl Level {
         ensures { λ r. ⌜ r ≡ after-factor self ⌝ }
     {
         Level {
-            either: self.either,
             both: false,
             negated: false,
+            ..self
         }
     }
 
@@ -124,9 +126,9 @@ impl Level {
         ensures { λ r. ⌜ r ≡ after-and self ⌝ }
     {
         Level {
-            either: self.either,
             both: true,
             negated: false,
+            ..self
         }
     }
 
@@ -144,9 +146,8 @@ impl Level {
         ensures { λ r. ⌜ r ≡ after-not self ⌝ }
     {
         Level {
-            either: self.either,
-            both: self.both,
             negated: !self.negated,
+            ..self
         }
     }
 }
@@ -232,4 +233,10 @@ fn number_place(mark: Mark, place: usize, digit: usize) -> usize
         Mark::Compare(_) => place + 1,
         _ => digit,
     }
+}
+
+fn refuse(cause: Cause, place: usize) -> Result<(), TextFault>
+    ensures { λ r. ⌜ r ≡ refusal cause place ⌝ }
+{
+    Err(TextFault { cause, place })
 }

@@ -7,8 +7,7 @@ ghost use Prim.Native.Nat.{_+_, _≤_};
 ghost use lib.Dec.{eqb};
 ghost use lib.ListN.{length};
 ghost use Rattle.rule.specs.Machine.{bit, wait, weight, closed, leads, follows, next, settle as settled, start};
-ghost use Rattle.rule.specs.Marks.{opens, steps};
-ghost use Rattle.rule.specs.Marks.{mark-of};
+ghost use Rattle.rule.specs.Marks.{mark-of, opens, steps};
 ghost use Rattle.rule.specs.Reads.{Becomes, judgement, ends, Taken, Concluded, Read};
 ghost use Rattle.rule.specs.Refusing.{expects, is-follow, large as exceeds};
 ghost use Rattle.rule.specs.Views.{state, waiting, code as written};
@@ -26,6 +25,7 @@ use crate::text::expected;
 use crate::text::large;
 use crate::text::lex;
 use crate::text::number_place;
+use crate::text::refuse;
 use crate::text::too_deep;
 use crate::text::too_long;
 use crate::text::too_many;
@@ -65,28 +65,16 @@ impl Reader {
     {
         let depth = self.outer.depth();
         if !expected(self.mode, mark, depth) {
-            return Err(TextFault {
-                cause: Cause::ByteUnexpected,
-                place,
-            });
+            return refuse(Cause::ByteUnexpected, place);
         }
         if large(self.mode, mark) {
-            return Err(TextFault {
-                cause: Cause::NumberLarge,
-                place: self.digit,
-            });
+            return refuse(Cause::NumberLarge, self.digit);
         }
         if too_deep(mark, depth) {
-            return Err(TextFault {
-                cause: Cause::BracketDeep,
-                place,
-            });
+            return refuse(Cause::BracketDeep, place);
         }
         if too_many(mark, self.count) {
-            return Err(TextFault {
-                cause: Cause::StepsMany,
-                place,
-            });
+            return refuse(Cause::StepsMany, place);
         }
         Ok(())
     }
