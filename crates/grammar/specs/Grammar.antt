@@ -5,7 +5,7 @@
 -- the first is not 0. The definitions below are these sentences; none of them reads a text.
 
 use mathlib.Core.Path.{_≡_}
-use mathlib.Core.Bool.{Bool, true, false, not, cond, _&&_, _||_}
+use mathlib.Core.Bool.{Bool, true, not, cond, _&&_, _||_}
 use mathlib.Core.List.{List, [], _∷_, _++_}
 use mathlib.Core.Logic.{_⊎_}
 use Prim.Native.Nat.{ℕ, _+_, _-_, _*_, _<_, _≤_}
@@ -26,10 +26,12 @@ digit b = leb 48 b && leb b 57
 abbrev pub leading : ℕ → Bool
 leading b = leb 49 b && leb b 57
 
+-- any digits
 pub data Digits : Type 0 where
   none : Digits
   more : (b : ℕ) → T (digit b) → Digits → Digits
 
+-- 0, or digits of which the first is not 0
 pub data Number : Type 0 where
   nought : Number
   figures : (b : ℕ) → T (leading b) → Digits → Number
@@ -37,16 +39,20 @@ pub data Number : Type 0 where
 pub data Sort : Type 0 where
   rule term factor : Sort
 
+-- the syntax trees of rules, terms and factors
 pub data Tree : Sort → Type 0 where
+  -- one term, or a term | a rule
   one : Tree term → Tree rule
   or : Tree term → Tree rule → Tree rule
+  -- one factor, or a factor & a term
   sole : Tree factor → Tree term
   and : Tree factor → Tree term → Tree term
+  -- ! a factor, ( a rule ), or a test
   neg : Tree factor → Tree factor
   group : Tree rule → Tree factor
   test : Field → Sign → Number → Tree factor
 
--- how each is written: c r m i, = < >, | & ! ( )
+-- the letters c, r, m, i and the signs =, <, >
 abbrev pub letter : Field → ℕ
 letter Class = 99
 letter Rating = 114
@@ -66,6 +72,7 @@ abbrev pub number : Number → List ℕ
 number nought = 48 ∷ []
 number (figures b h d) = b ∷ digits d
 
+-- how a tree is written, with | & ! ( )
 abbrev pub spell : {s : Sort} → Tree s → List ℕ
 spell (one t) = spell t
 spell (or t r) = spell t ++ 124 ∷ spell r
