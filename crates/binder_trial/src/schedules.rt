@@ -58,37 +58,40 @@ pub fn lots(rt: &LibcRuntime) -> io::Result<()> {
     tally.report(rt, "lots of a schedule")
 }
 
-// A label, a share, a text, and the refusal's number and place: a fault of the text comes before the
-// share.
-const LOADS: [(u8, u64, &[u8], u8, usize); 12] = [
-    (0, 0, b"c=1", 0, 0),
-    (255, 10_000, b"c=1", 0, 0),
-    (1, 10_001, b"c=1", 10, 0),
-    (2, u64::MAX, b"c=1", 10, 0),
-    (3, 65_536, b"c=1", 10, 0),
-    (4, 10_000, b"", 6, 0),
-    (200, 10_000, b"r<01", 6, 3),
-    (255, 10_001, b"r<01", 6, 3),
-    (0, 10_001, b"m<65536", 7, 2),
-    (7, 0, b"((((((((((((((((((c=1))))))))))))))))))", 8, 16),
-    (8, 0, b"c=1&", 6, 4),
-    (9, 10_001, b"c=1&", 6, 4),
+// A label, a share, a text, the refusal's number and place, and the share afterwards: a fault of the
+// text comes before the share.
+const LOADS: [(u8, u64, &[u8], u8, usize, u16); 12] = [
+    (0, 0, b"c=1", 0, 0, 0),
+    (255, 10_000, b"c=1", 0, 0, 10_000),
+    (1, 10_001, b"c=1", 10, 0, 2_500),
+    (2, u64::MAX, b"c=1", 10, 0, 2_500),
+    (3, 65_536, b"c=1", 10, 0, 2_500),
+    (4, 10_000, b"", 6, 0, 2_500),
+    (200, 10_000, b"r<01", 6, 3, 2_500),
+    (255, 10_001, b"r<01", 6, 3, 2_500),
+    (0, 10_001, b"m<65536", 7, 2, 2_500),
+    (
+        7,
+        0,
+        b"((((((((((((((((((c=1))))))))))))))))))",
+        8,
+        16,
+        2_500,
+    ),
+    (8, 0, b"c=1&", 6, 4, 2_500),
+    (9, 10_001, b"c=1&", 6, 4, 2_500),
 ];
 
 // What is loaded replaces the schedule, and what is refused leaves it as it was.
 pub fn loads(rt: &LibcRuntime) -> io::Result<()> {
     let mut tally = Tally::new();
-    for (label, share, text, cause, place) in LOADS {
+    for (label, share, text, cause, place, after) in LOADS {
         let mut schedule = RuleSchedule::blank();
         tally.note(load(&mut schedule, 77, 2_500, b"c=2") == (0, 0, 0));
         let loaded = cause == 0;
         let want = if loaded { 0 } else { label };
         tally.note(load(&mut schedule, label, share, text) == (cause, place, want));
-        tally.share(
-            &schedule,
-            0,
-            Some(if loaded { share as u16 } else { 2_500 }),
-        );
+        tally.share(&schedule, 0, Some(after));
         tally.admits(&schedule, 0, [1, 1, 0, 0], loaded);
         tally.admits(&schedule, 0, [2, 1, 0, 0], !loaded);
     }

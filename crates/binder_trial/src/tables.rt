@@ -113,38 +113,43 @@ pub fn limits(rt: &LibcRuntime) -> io::Result<()> {
     tally.report(rt, "limits of a table")
 }
 
-// A share, the limit of class 7, and the number of the refusal.
-const LOADS: [(u64, u64, u64, u8); 14] = [
-    (0, 0, 0, 0),
-    (10_000, 22, 1_200, 0),
-    (10_001, 22, 1_200, 10),
-    (10_000, 23, 1_200, 10),
-    (10_000, 22, 1_201, 10),
-    (10_001, 23, 1_201, 10),
-    (65_536, 0, 0, 10),
-    (0, 256, 0, 10),
-    (0, 0, 65_536, 10),
-    (u64::MAX, 0, 0, 10),
-    (0, u64::MAX, 0, 10),
-    (0, 0, u64::MAX, 10),
-    (9_999, 21, 1_199, 0),
-    (1, 1, 1, 0),
+// A share, the limit of class 7, the number of the refusal, and the share afterwards.
+const LOADS: [(u64, u64, u64, u8, u16); 14] = [
+    (0, 0, 0, 0, 0),
+    (10_000, 22, 1_200, 0, 10_000),
+    (10_001, 22, 1_200, 10, 2_500),
+    (10_000, 23, 1_200, 10, 2_500),
+    (10_000, 22, 1_201, 10, 2_500),
+    (10_001, 23, 1_201, 10, 2_500),
+    (65_536, 0, 0, 10, 2_500),
+    (0, 256, 0, 10, 2_500),
+    (0, 0, 65_536, 10, 2_500),
+    (u64::MAX, 0, 0, 10, 2_500),
+    (0, u64::MAX, 0, 10, 2_500),
+    (0, 0, u64::MAX, 10, 2_500),
+    (9_999, 21, 1_199, 0, 9_999),
+    (1, 1, 1, 0, 1),
 ];
 
 // What is loaded replaces the table, and what is refused leaves it as it was.
+fn reload(tally: &mut Tally, row: (u64, u64, u64, u8, u16)) {
+    let (share, worst, longest, cause, after) = row;
+    let mut table = RatingTable::blank();
+    tally.note(load(&mut table, 2_500, &LIMITS) == (0, 0));
+    let mut limits = [OPEN; 8];
+    limits[7] = ClassLimit { worst, longest };
+    tally.note(load(&mut table, share, &limits) == (cause, 0));
+    let loaded = cause == 0;
+    tally.share(&table, 0, Some(after));
+    tally.admits(&table, 0, [0, 22, 1200, 0], loaded);
+    tally.admits(&table, 0, [7, 22, 1200, 0], loaded && worst == 22);
+    tally.admits(&table, 0, [7, 21, 1199, 0], !loaded || worst > 20);
+}
+
 pub fn loads(rt: &LibcRuntime) -> io::Result<()> {
     let mut tally = Tally::new();
-    for (share, worst, longest, want) in LOADS {
-        let mut table = RatingTable::blank();
-        tally.note(load(&mut table, 2_500, &LIMITS) == (0, 0));
-        let mut limits = [OPEN; 8];
-        limits[7] = ClassLimit { worst, longest };
-        tally.note(load(&mut table, share, &limits) == (want, 0));
-        let loaded = want == 0;
-        tally.share(&table, 0, Some(if loaded { share as u16 } else { 2_500 }));
-        tally.admits(&table, 0, [0, 22, 1200, 0], loaded);
-        tally.admits(&table, 0, [7, 22, 1200, 0], loaded && worst == 22);
-        tally.admits(&table, 0, [7, 21, 1199, 0], !loaded || worst > 20);
+    for row in LOADS {
+        reload(&mut tally, row);
     }
     tally.report(rt, "loads of a table")
 }
