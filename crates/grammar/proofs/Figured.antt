@@ -1,25 +1,25 @@
 -- The worked figures, each by giving the tree of the text or by going through the faults that a short text can have.
 
 use mathlib.Core.Path.{_≡_, refl, sym, ap, subst, _∙_}
-use mathlib.Core.Bool.{Bool, true, false, _&&_}
+use mathlib.Core.Bool.{Bool, true, _&&_}
 use mathlib.Core.List.{List, [], _∷_, _++_}
 use mathlib.Core.Logic.{_⊎_, inl, inr}
 use Prim.Native.Nat.{ℕ, _+_, _<_, _≤_}
 use native.Mathlib.Omega.{arith}
 use lib.Chars.{codes}
 use lib.Dec.{eqb, ltb, lit<}
-use lib.ListN.{length, take, drop, getD, length-append, take-append-drop}
+use lib.ListN.{length, take}
 use lib.Seq.{take-append-le, length-take-le}
 use Rattle.std.proofs.shelf.Tests.{true≢false, ltb-true, and-parts, cases-lt}
 use Rattle.grammar.specs.declared.Field.{Field}
-use Rattle.grammar.specs.declared.Field.the-variants.{Class, Rating, Months, Issuer}
+use Rattle.grammar.specs.declared.Field.the-variants.{Rating, Months, Issuer}
 use Rattle.grammar.specs.declared.Sign.{Sign}
-use Rattle.grammar.specs.declared.Sign.the-variants.{Equal, Less, Greater}
+use Rattle.grammar.specs.declared.Sign.the-variants.{Equal, Less}
 use Rattle.grammar.specs.declared.Description.{Description}
-use Rattle.grammar.specs.Grammar.{digit, Digits, Number, Tree, letter, sign, number, spell, amount, holds, largest, step, count, IsRule, Begins, Fault, Faultless, Least}
+use Rattle.grammar.specs.Grammar.{digit, Number, Tree, letter, sign, number, spell, amount, holds, largest, step, count, IsRule, Begins, Fault, Faultless, Least}
 use Rattle.grammar.specs.Grammar.Digits.{none, more}
 use Rattle.grammar.specs.Grammar.Number.{nought, figures}
-use Rattle.grammar.specs.Grammar.Sort.{rule, term, factor}
+use Rattle.grammar.specs.Grammar.Sort.{rule, factor}
 use Rattle.grammar.specs.Grammar.Tree.{one, or, sole, and, neg, group, test}
 use Rattle.grammar.specs.Grammar.Fault.{long, unexpected, ended, over, deep, steps}
 use Rattle.grammar.specs.Figures.{Says, lot, Figures}

@@ -1,13 +1,13 @@
 -- Two rules joined by | are a rule, two terms joined by & a term, and the joined trees say what the parts say. With
 -- one tree to a text, that is the meaning of the joined text, and & is inside what | joins.
 
-use mathlib.Core.Path.{_≡_, refl, sym, ap, subst, _∙_}
+use mathlib.Core.Path.{_≡_, refl, sym, ap, _∙_}
 use mathlib.Core.Bool.{Bool, true, false, _&&_, _||_}
-use mathlib.Core.List.{List, [], _∷_, _++_, append-assoc}
+use mathlib.Core.List.{List, _∷_, _++_, append-assoc}
 use Prim.Native.Nat.{ℕ}
 use Rattle.grammar.specs.declared.Description.{Description}
-use Rattle.grammar.specs.Grammar.{Sort, Tree, spell, holds, Means}
-use Rattle.grammar.specs.Grammar.Sort.{rule, term, factor}
+use Rattle.grammar.specs.Grammar.{Tree, spell, holds, Means}
+use Rattle.grammar.specs.Grammar.Sort.{rule, term}
 use Rattle.grammar.specs.Grammar.Tree.{one, or, sole, and}
 use Rattle.grammar.specs.Laws.{Precedence}
 use Rattle.grammar.proofs.Unique.{one-tree}

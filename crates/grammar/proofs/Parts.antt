@@ -1,12 +1,12 @@
 -- Parts of a rule's text: its beginnings, its first factor, the bytes of a number.
 
 use mathlib.Core.Path.{_≡_, refl, sym, ap, subst, _∙_}
-use mathlib.Core.Bool.{Bool, true, false, cond, _&&_}
+use mathlib.Core.Bool.{Bool, true, false, cond}
 use mathlib.Core.List.{List, [], _∷_, _++_, append-assoc, append-nil}
-use Prim.Native.Nat.{ℕ, _+_, _-_, _*_, _<_, _≤_}
+use Prim.Native.Nat.{ℕ, _+_, _-_, _*_, _≤_}
 use native.Mathlib.Omega.{arith}
 use lib.ListN.{length, take, drop, length-append, take-append-drop}
-use Rattle.grammar.specs.Grammar.{digit, Digits, Number, Sort, Tree, digits, number, spell, value, amount, count, IsRule, Begins}
+use Rattle.grammar.specs.Grammar.{digit, Digits, Number, Sort, Tree, digits, number, spell, value, amount, count, Begins}
 use Rattle.grammar.specs.Grammar.Digits.{none, more}
 use Rattle.grammar.specs.Grammar.Number.{nought, figures}
 use Rattle.grammar.specs.Grammar.Sort.{rule, term, factor}

@@ -7,19 +7,17 @@
 -- trees and equal rests; a whole text has an empty rest.
 
 use mathlib.Core.Path.{_≡_, refl, sym, ap, subst, _∙_}
-use mathlib.Core.Bool.{Bool, true, false, cond, _&&_, _||_}
+use mathlib.Core.Bool.{Bool, true, false, cond, _||_}
 use mathlib.Core.List.{List, [], _∷_, _++_, append-assoc, append-nil}
-use mathlib.Core.Logic.{_⊎_, inl, inr}
-use Prim.Native.Nat.{ℕ, _+_, _-_, _*_, _<_, _≤_}
+use Prim.Native.Nat.{ℕ, _≤_}
 use native.Mathlib.Omega.{arith}
-use lib.Dec.{T, T-prop, eqb, leb, leb→le}
-use Rattle.std.proofs.shelf.Tests.{both-ways, true≢false}
+use lib.Dec.{T, T-prop, eqb}
+use Rattle.std.proofs.shelf.Tests.{both-ways}
 use Rattle.std.proofs.shelf.Ways.{tells}
 use Rattle.grammar.specs.declared.Field.{Field}
 use Rattle.grammar.specs.declared.Field.the-variants.{Class, Rating, Months, Issuer}
 use Rattle.grammar.specs.declared.Sign.{Sign}
 use Rattle.grammar.specs.declared.Sign.the-variants.{Equal, Less, Greater}
-use Rattle.grammar.specs.declared.Description.{Description}
 use Rattle.grammar.specs.Grammar.{digit, leading, Digits, Number, Sort, Tree, letter, sign, digits, number, spell, holds, Means}
 use Rattle.grammar.specs.Grammar.Digits.{none, more}
 use Rattle.grammar.specs.Grammar.Number.{nought, figures}

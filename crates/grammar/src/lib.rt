@@ -13,6 +13,7 @@ pub struct Description {
     pub issuer: u16,
 }
 
+// The fields of a description that a test may name: `c`, `r`, `m`, `i`.
 #[derive(Clone, Copy)]
 pub enum Field {
     Class,
@@ -21,6 +22,7 @@ pub enum Field {
     Issuer,
 }
 
+// How a test compares the field with its number: `=`, `<`, `>`.
 #[derive(Clone, Copy)]
 pub enum Sign {
     Equal,

@@ -2,14 +2,14 @@
 
 use mathlib.Core.Path.{_≡_, refl, sym, ap, subst, _∙_}
 use mathlib.Core.Bool.{Bool, true, false}
-use mathlib.Core.List.{List, [], _∷_, _++_}
+use mathlib.Core.List.{List, _∷_, _++_}
 use Prim.Native.Nat.{ℕ, zero, suc, _+_, _-_, _<_, _≤_}
 use native.Mathlib.Omega.{arith}
 use native.Mathlib.Numerals.{add-one}
 use lib.ListN.{length, getD, set, length-append}
 use lib.Seq.{getD-set-same, getD-set-other}
 use Rattle.rule.specs.declared.steps.Step.{Step}
-use Rattle.rule.specs.declared.levels.Level.{Level}
+use Rattle.rule.specs.declared.text.Level.{Level}
 use Rattle.rule.specs.declared.steps.Step.the-variants.{Negate, Both, Either}
 use Rattle.rule.specs.Machine.{fresh, bit, step-if, finished, ended}
 use Rattle.rule.specs.Views.{levels}

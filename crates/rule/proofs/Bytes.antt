@@ -1,10 +1,10 @@
 -- A byte and its mark say the same.
 
-use mathlib.Core.Path.{_≡_, refl, sym, ap, subst, _∙_}
-use mathlib.Core.Bool.{Bool, true, false, cond, _&&_}
-use Prim.Native.Nat.{ℕ, _-_, _≤_}
+use mathlib.Core.Path.{_≡_, refl}
+use mathlib.Core.Bool.{true, cond}
+use Prim.Native.Nat.{ℕ, _-_}
 use native.Mathlib.Omega.{arith}
-use lib.Dec.{T, eqb, leb}
+use lib.Dec.{eqb}
 use Rattle.std.proofs.shelf.Tests.{eqb-true, cond-both}
 use Rattle.std.proofs.shelf.Ways.{tells}
 use Rattle.grammar.specs.declared.Field.{Field}
@@ -12,12 +12,10 @@ use Rattle.grammar.specs.declared.Field.the-variants.{Class, Rating, Months, Is
 use Rattle.grammar.specs.declared.Sign.{Sign}
 use Rattle.grammar.specs.declared.Sign.the-variants.{Equal, Less, Greater}
 use Rattle.grammar.specs.Grammar.{digit, letter, sign, step}
-use Rattle.rule.specs.declared.marks.Lead.{Lead}
-use Rattle.rule.specs.declared.marks.Lead.the-variants.{Letter, Not, Open}
-use Rattle.rule.specs.declared.marks.Follow.{Follow}
-use Rattle.rule.specs.declared.marks.Follow.the-variants.{And, Or, Close}
-use Rattle.rule.specs.declared.marks.Mark.{Mark}
-use Rattle.rule.specs.declared.marks.Mark.the-variants.{Lead as Leads, Compare, Digit, Follow as Follows, Other}
+use Rattle.rule.specs.declared.text.Lead.the-variants.{Letter, Not, Open}
+use Rattle.rule.specs.declared.text.Follow.the-variants.{And, Or, Close}
+use Rattle.rule.specs.declared.text.Mark.{Mark}
+use Rattle.rule.specs.declared.text.Mark.the-variants.{Lead as Leads, Compare, Digit, Follow as Follows, Other}
 use Rattle.rule.specs.Marks.{mark-of, steps, opens, closes}
 
 pub mark-letter : (f : Field) → mark-of (letter f) ≡ Leads (Letter f)

@@ -1,10 +1,10 @@
 -- Every text is accepted with a meaning or has a least fault: the reader's verdicts, taken byte by byte to the end.
 
-use mathlib.Core.Path.{_≡_, refl, sym, ap, subst, _∙_}
+use mathlib.Core.Path.{_≡_, refl, sym}
 use mathlib.Core.Bool.{Bool, true, false, _&&_}
 use mathlib.Core.List.{List, [], _∷_, _++_}
 use mathlib.Core.Logic.{_⊎_, inl, inr}
-use Prim.Native.Nat.{ℕ, zero, suc, _+_, _<_, _≤_}
+use Prim.Native.Nat.{ℕ, zero, suc, _+_, _<_}
 use native.Mathlib.Omega.{arith}
 use lib.Dec.{eqb}
 use lib.ListN.{length, getD}
@@ -15,15 +15,15 @@ use Rattle.cause.specs.Numbers.{number as listed}
 use Rattle.grammar.specs.declared.Description.{Description}
 use Rattle.grammar.specs.Grammar.{Least}
 use Rattle.rule.specs.declared.fault.TextFault.{TextFault}
-use Rattle.rule.specs.declared.marks.Mark.{Mark}
+use Rattle.rule.specs.declared.text.Mark.{Mark}
 use Rattle.rule.specs.declared.steps.Step.{Step}
 use Rattle.rule.specs.declared.steps.Step.the-variants.{Test}
-use Rattle.rule.specs.declared.levels.Level.{Level}
-use Rattle.rule.specs.declared.levels.Mode.{Mode}
-use Rattle.rule.specs.declared.levels.Mode.the-variants.{Want, Named, Signed, Counting, Done}
+use Rattle.rule.specs.declared.text.Level.{Level}
+use Rattle.rule.specs.declared.text.Mode.{Mode}
+use Rattle.rule.specs.declared.text.Mode.the-variants.{Want, Named, Signed, Counting, Done}
 use Rattle.rule.specs.Marks.{mark-of, steps}
-use Rattle.rule.specs.Machine.{State, rested, finished, ended, bit, next, start, settle}
-use Rattle.rule.specs.Machine.State.{dead, at}
+use Rattle.rule.specs.Machine.{rested, finished, bit}
+use Rattle.rule.specs.Machine.State.{at}
 use Rattle.rule.specs.Reads.{ends, Concluded}
 use Rattle.rule.specs.Refusing.{verdict, first-digit, Allowed}
 use Rattle.rule.specs.Says.{Accepted, Decided}

@@ -1,5 +1,5 @@
 pub mod Arrays
-pub mod Piles
+pub mod Stacks
 pub mod Bytes
 pub mod Moves
 pub mod Trees

@@ -2,30 +2,28 @@
 -- by going through these ten.
 
 use mathlib.Core.Path.{_≡_, refl, sym, ap, subst, _∙_}
-use mathlib.Core.Bool.{Bool, true, false, not, cond}
+use mathlib.Core.Bool.{Bool, true, false, not}
 use mathlib.Core.List.{List, [], _∷_, _++_}
 use mathlib.Core.Logic.{_⊎_, inl, inr}
-use Prim.Native.Nat.{ℕ, _+_, _*_, _<_, _≤_}
+use Prim.Native.Nat.{ℕ, _+_, _*_, _≤_}
 use native.Mathlib.Omega.{arith}
-use lib.Dec.{eqb, ltb}
+use lib.Dec.{eqb}
 use lib.ListN.{length, length-append}
-use Rattle.std.proofs.shelf.Tests.{both-ways, cond-both, eqb-true, eqb-false, lt-ltb, cases-bool}
+use Rattle.std.proofs.shelf.Tests.{cond-both, eqb-true, eqb-false}
 use Rattle.grammar.specs.declared.Field.{Field}
 use Rattle.grammar.specs.declared.Sign.{Sign}
 use Rattle.grammar.specs.Grammar.{count, step}
-use Rattle.rule.specs.declared.marks.Lead.{Lead}
-use Rattle.rule.specs.declared.marks.Lead.the-variants.{Letter, Not, Open}
-use Rattle.rule.specs.declared.marks.Follow.{Follow}
-use Rattle.rule.specs.declared.marks.Follow.the-variants.{And, Or, Close}
-use Rattle.rule.specs.declared.marks.Mark.{Mark}
-use Rattle.rule.specs.declared.marks.Mark.the-variants.{Lead as Leads, Compare, Digit, Follow as Follows, Other}
+use Rattle.rule.specs.declared.text.Lead.the-variants.{Letter, Not, Open}
+use Rattle.rule.specs.declared.text.Follow.{Follow}
+use Rattle.rule.specs.declared.text.Follow.the-variants.{And, Or, Close}
+use Rattle.rule.specs.declared.text.Mark.{Mark}
+use Rattle.rule.specs.declared.text.Mark.the-variants.{Lead as Leads, Compare, Digit, Follow as Follows, Other}
 use Rattle.rule.specs.declared.steps.Step.{Step}
-use Rattle.rule.specs.declared.steps.Step.the-variants.{Test, Negate, Both, Either}
-use Rattle.rule.specs.declared.levels.Level.{Level}
-use Rattle.rule.specs.declared.levels.Mode.{Mode}
-use Rattle.rule.specs.declared.levels.Mode.the-variants.{Want, Named, Signed, Counting, Done}
+use Rattle.rule.specs.declared.steps.Step.the-variants.{Test}
+use Rattle.rule.specs.declared.text.Level.{Level}
+use Rattle.rule.specs.declared.text.Mode.the-variants.{Want, Named, Signed, Counting, Done}
 use Rattle.rule.specs.Marks.{mark-of, steps, opens, closes}
-use Rattle.rule.specs.Machine.{State, fresh, rested, anded, ored, flipped, bit, step-if, finished, ended, closed, next, scan, start, settle, waits, wait, in-test, weight}
+use Rattle.rule.specs.Machine.{State, fresh, rested, anded, ored, flipped, bit, finished, ended, closed, next, scan, waits, wait, weight}
 use Rattle.rule.specs.Machine.State.{dead, at}
 use Rattle.rule.proofs.Arrays.{finished-length, ended-length}
 use Rattle.rule.proofs.Bytes.{step-same, open-same, close-same}

@@ -8,7 +8,7 @@
 -- wrong, and its first digit was expected.
 
 use mathlib.Core.Path.{_≡_, refl, sym, ap, subst, _∙_}
-use mathlib.Core.Bool.{Bool, true, false, cond}
+use mathlib.Core.Bool.{Bool, true, false}
 use mathlib.Core.List.{List, [], _∷_, _++_, append-assoc, append-nil}
 use mathlib.Core.Logic.{_⊎_, inl, inr}
 use Prim.Native.Nat.{ℕ, zero, suc, _+_, _-_, _*_, _<_, _≤_}
@@ -17,21 +17,18 @@ use native.Mathlib.Numerals.{one-add}
 use lib.Dec.{T, eqb}
 use lib.ListN.{length, take, drop, getD, length-append, take-append-drop}
 use lib.Seq.{take-append-add, take-append-le, take-all, length-take-le}
-use Rattle.std.proofs.shelf.Tests.{both-ways, cases-lt, cases-eq, cases-order}
+use Rattle.std.proofs.shelf.Tests.{both-ways, cases-lt, cases-eq}
 use Rattle.grammar.specs.declared.Field.{Field}
 use Rattle.grammar.specs.declared.Sign.{Sign}
-use Rattle.grammar.specs.Grammar.{digit, leading, Digits, Number, letter, sign, digits, number, value, amount, longest, largest, deepest, most-steps, count, step, IsRule, Begins, Fault, Faultless, Least}
+use Rattle.grammar.specs.Grammar.{digit, leading, Digits, letter, sign, digits, number, value, longest, largest, deepest, most-steps, count, step, IsRule, Begins, Fault, Faultless, Least}
 use Rattle.grammar.specs.Grammar.Digits.{none, more}
 use Rattle.grammar.specs.Grammar.Number.{nought, figures}
 use Rattle.grammar.specs.Grammar.Fault.{long, unexpected, ended, over, deep, steps}
-use Rattle.rule.specs.declared.marks.Lead.the-variants.{Letter}
-use Rattle.rule.specs.declared.marks.Mark.{Mark}
-use Rattle.rule.specs.declared.marks.Mark.the-variants.{Lead as Leads, Compare, Digit, Follow as Follows, Other}
+use Rattle.rule.specs.declared.text.Lead.the-variants.{Letter}
+use Rattle.rule.specs.declared.text.Mark.the-variants.{Lead as Leads, Compare}
 use Rattle.rule.specs.declared.steps.Step.{Step}
-use Rattle.rule.specs.declared.levels.Level.{Level}
-use Rattle.rule.specs.declared.levels.Mode.{Mode}
-use Rattle.rule.specs.declared.levels.Mode.the-variants.{Want, Named, Signed, Counting, Done}
-use Rattle.rule.specs.Marks.{mark-of}
+use Rattle.rule.specs.declared.text.Level.{Level}
+use Rattle.rule.specs.declared.text.Mode.the-variants.{Want, Named, Signed, Counting, Done}
 use Rattle.rule.specs.Machine.{State, next, scan, start}
 use Rattle.rule.specs.Machine.State.{dead, at}
 use Rattle.rule.proofs.Bytes.{mark-digit}

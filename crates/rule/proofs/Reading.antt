@@ -1,50 +1,52 @@
 -- What the reader knows before each byte, and why its verdict on the next mark is right.
+--
+-- Before the byte at i the text has passed up to i, the reader stands where the machine stands, its count is the
+-- number of steps so far, and it knows where a number that is being read began. Its verdict looks at the next mark:
+-- if the machine would be dead, the byte is unexpected; if a digit makes the number too large, the fault is the
+-- number's; if a bracket or a step is one too many, it stands at i. Each is the least fault by what is shown in
+-- Passing. Else the text has passed up to i + 1. At the end the machine rests with no bracket open exactly if the
+-- text is a rule, and what is written then are the steps of its tree.
 
 use mathlib.Core.Path.{_≡_, refl, sym, ap, subst, _∙_}
-use mathlib.Core.Bool.{Bool, true, false, cond, _&&_}
+use mathlib.Core.Bool.{Bool, true, false, _&&_}
 use mathlib.Core.List.{List, [], _∷_, _++_}
 use mathlib.Core.Logic.{_⊎_, inl, inr}
-use Prim.Native.Nat.{ℕ, zero, suc, _+_, _-_, _*_, _<_, _≤_}
+use Prim.Native.Nat.{ℕ, _+_, _-_, _*_, _<_, _≤_}
 use native.Mathlib.Omega.{arith}
-use lib.Dec.{eqb, ltb}
+use lib.Dec.{eqb}
 use lib.ListN.{length, take, getD}
 use lib.Seq.{length-take-le, take-all}
 use Rattle.std.specs.declared.result.Result.{Result}
 use Rattle.std.specs.declared.result.Result.the-variants.{Ok, Err}
 use Rattle.std.proofs.shelf.Lists.{take-more, nil-from-length}
-use Rattle.std.proofs.shelf.Tests.{both-ways, ltb-true, ltb-false, lt-ltb, eqb-true, eqb-false, eq-eqb, cases-lt, cases-bool, and-parts, and-from, cond-both}
+use Rattle.std.proofs.shelf.Tests.{both-ways, ltb-true, ltb-false, lt-ltb, eqb-true, eqb-false, eq-eqb, and-parts, and-from, cond-both}
 use Rattle.std.proofs.shelf.Ways.{tells}
 use Rattle.cause.specs.Numbers.{number as listed}
-use Rattle.grammar.specs.declared.Field.{Field}
-use Rattle.grammar.specs.declared.Sign.{Sign}
-use Rattle.grammar.specs.declared.Description.{Description}
-use Rattle.grammar.specs.Grammar.{digit, Tree, spell, holds, longest, largest, deepest, most-steps, count, step, IsRule, Fault, Faultless, Least, Means}
-use Rattle.grammar.specs.Grammar.Sort.{rule}
+use Rattle.grammar.specs.Grammar.{digit, longest, largest, deepest, most-steps, count, step, IsRule, Least}
 use Rattle.rule.specs.declared.fault.TextFault.{TextFault}
-use Rattle.rule.specs.declared.marks.Lead.{Lead}
-use Rattle.rule.specs.declared.marks.Lead.the-variants.{Letter, Not, Open}
-use Rattle.rule.specs.declared.marks.Follow.{Follow}
-use Rattle.rule.specs.declared.marks.Follow.the-variants.{And, Or, Close}
-use Rattle.rule.specs.declared.marks.Mark.{Mark}
-use Rattle.rule.specs.declared.marks.Mark.the-variants.{Lead as Leads, Compare, Digit, Follow as Follows, Other}
+use Rattle.rule.specs.declared.text.Lead.the-variants.{Letter, Not, Open}
+use Rattle.rule.specs.declared.text.Follow.{Follow}
+use Rattle.rule.specs.declared.text.Follow.the-variants.{And, Or, Close}
+use Rattle.rule.specs.declared.text.Mark.{Mark}
+use Rattle.rule.specs.declared.text.Mark.the-variants.{Lead as Leads, Compare, Digit, Follow as Follows, Other}
 use Rattle.rule.specs.declared.steps.Step.{Step}
-use Rattle.rule.specs.declared.levels.Level.{Level}
-use Rattle.rule.specs.declared.levels.Mode.{Mode}
-use Rattle.rule.specs.declared.levels.Mode.the-variants.{Want, Named, Signed, Counting, Done}
+use Rattle.rule.specs.declared.text.Level.{Level}
+use Rattle.rule.specs.declared.text.Mode.{Mode}
+use Rattle.rule.specs.declared.text.Mode.the-variants.{Want, Named, Signed, Counting, Done}
 use Rattle.rule.specs.Marks.{mark-of, steps, opens}
-use Rattle.rule.specs.Refusing.{expects, is-follow, large, verdict, fault, Allowed, first-digit}
+use Rattle.rule.specs.Refusing.{expects, is-follow, large, verdict, Allowed, first-digit}
 use Rattle.rule.specs.Machine.{State, rested, bit, next, scan, start, settle, weight, ended}
 use Rattle.rule.specs.Machine.State.{dead, at}
-use Rattle.rule.specs.Pile.{acts, top}
+use Rattle.rule.specs.Stack.{acts, top}
 use Rattle.rule.specs.Reads.{ends, Concluded}
 use Rattle.rule.specs.Says.{Accepted}
 use Rattle.rule.proofs.Bytes.{ByteOf, byte-of, step-same, open-same}
-use Rattle.rule.proofs.Moves.{Rests, rests-weight, Moves, moves, depth, move-depth, scan-++, scan-weight, scan-depth}
+use Rattle.rule.proofs.Moves.{rests-weight, Moves, moves, depth, move-depth, scan-++, scan-weight, scan-depth}
 use Rattle.rule.proofs.Moves.Rests.{counted}
 use Rattle.rule.proofs.Moves.Moves.{names, negates, enters, signs, zeroes, begins, counts, ands, ors, shuts}
 use Rattle.rule.proofs.Trees.{Whole, rule-whole, whole-same, post, answers}
 use Rattle.rule.proofs.Viable.{Read, read-more, read-none, whole-rule}
-use Rattle.rule.proofs.Passing.{counting, Big, Alive, Small, Shallow, Few, Passed, passed-none, passed-more, least-byte, least-bracket, least-step, least-number, least-end, no-fault}
+use Rattle.rule.proofs.Passing.{counting, Big, Alive, Shallow, Few, Passed, passed-none, passed-more, least-byte, least-bracket, least-step, least-number, least-end, no-fault}
 
 -- a mark is expected exactly if the machine lives on
 abbrev lives : State → Bool

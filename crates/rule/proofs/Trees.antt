@@ -1,42 +1,40 @@
 -- What the machine does with the text of a tree.
 --
 -- Along the spelling of a factor it writes the factor's steps, then what waited for it; so by induction along a term
--- and a rule. The steps of a tree put its meaning on the pile: a test puts its answer there, and each operator
+-- and a rule. The steps of a tree put its meaning on the stack: a test puts its answer there, and each operator
 -- replaces the answers of its parts. So at the end of a rule's text the steps answer what the rule says.
 
-use mathlib.Core.Path.{_≡_, refl, sym, ap, subst, _∙_}
+use mathlib.Core.Path.{_≡_, refl, sym, ap, _∙_}
 use mathlib.Core.Bool.{Bool, true, false, cond, not, _&&_, _||_}
-use mathlib.Core.List.{List, [], _∷_, _++_, append-assoc, append-nil}
+use mathlib.Core.List.{List, [], _∷_, _++_, append-assoc}
 use Prim.Native.Nat.{ℕ, _+_, _-_, _*_, _/_}
 use native.Mathlib.Omega.{arith}
 use lib.Dec.{T, eqb}
-use Rattle.std.proofs.shelf.Tests.{ne-eqb, cond-false}
+use Rattle.std.proofs.shelf.Tests.{cond-false}
 use Rattle.std.proofs.shelf.Ways.{tells}
 use Rattle.grammar.specs.declared.Field.{Field}
 use Rattle.grammar.specs.declared.Sign.{Sign}
 use Rattle.grammar.specs.declared.Description.{Description}
-use Rattle.grammar.specs.Grammar.{digit, leading, Digits, Number, Sort, Tree, letter, sign, digits, number, spell, value, amount, holds, IsRule, Begins}
+use Rattle.grammar.specs.Grammar.{digit, leading, Digits, Number, Sort, Tree, letter, sign, digits, number, spell, value, amount, holds, Begins}
 use Rattle.grammar.specs.Grammar.Digits.{none, more}
 use Rattle.grammar.specs.Grammar.Number.{nought, figures}
 use Rattle.grammar.specs.Grammar.Sort.{rule, term, factor}
 use Rattle.grammar.specs.Grammar.Tree.{one, or, sole, and, neg, group, test}
-use Rattle.rule.specs.declared.marks.Lead.the-variants.{Letter}
-use Rattle.rule.specs.declared.marks.Follow.{Follow}
-use Rattle.rule.specs.declared.marks.Follow.the-variants.{And, Or, Close}
-use Rattle.rule.specs.declared.marks.Mark.{Mark}
-use Rattle.rule.specs.declared.marks.Mark.the-variants.{Lead as Leads, Compare, Digit, Follow as Follows, Other}
+use Rattle.rule.specs.declared.text.Lead.the-variants.{Letter}
+use Rattle.rule.specs.declared.text.Follow.{Follow}
+use Rattle.rule.specs.declared.text.Follow.the-variants.{And, Or, Close}
+use Rattle.rule.specs.declared.text.Mark.the-variants.{Lead as Leads, Compare, Follow as Follows}
 use Rattle.rule.specs.declared.steps.Step.{Step}
 use Rattle.rule.specs.declared.steps.Step.the-variants.{Test, Negate, Both, Either}
-use Rattle.rule.specs.declared.levels.Level.{Level}
-use Rattle.rule.specs.declared.levels.Mode.{Mode}
-use Rattle.rule.specs.declared.levels.Mode.the-variants.{Want, Named, Signed, Counting, Done}
+use Rattle.rule.specs.declared.text.Level.{Level}
+use Rattle.rule.specs.declared.text.Mode.the-variants.{Want, Named, Signed, Counting, Done}
 use Rattle.rule.specs.Marks.{mark-of}
-use Rattle.rule.specs.Pile.{onto, top, act, acts}
-use Rattle.rule.specs.Machine.{State, fresh, rested, step-if, finished, ended, closed, next, scan, start, settle}
+use Rattle.rule.specs.Stack.{onto, top, acts}
+use Rattle.rule.specs.Machine.{State, fresh, rested, step-if, ended, closed, next, scan, start, settle}
 use Rattle.rule.specs.Machine.State.{dead, at}
 use Rattle.rule.proofs.Bytes.{mark-letter, mark-sign, mark-digit}
 use Rattle.rule.proofs.Moves.{scan-++, scan-dead}
-use Rattle.rule.proofs.Piles.{top-onto, under-onto, acts-++}
+use Rattle.rule.proofs.Stacks.{top-onto, under-onto, acts-++}
 
 -- the steps of a tree, where an earlier part (or, for a factor, a !) waits for it or not
 abbrev pub post : {s : Sort} → Bool → Tree s → List Step

@@ -6,29 +6,26 @@
 -- the brackets that are missing complete a rule; and a state after a factor with no bracket open has read a rule.
 
 use mathlib.Core.Path.{_≡_, refl, sym, ap, subst, _∙_}
-use mathlib.Core.Bool.{Bool, true, false, cond}
+use mathlib.Core.Bool.{Bool, true}
 use mathlib.Core.List.{List, [], _∷_, _++_, append-assoc, append-nil}
-use mathlib.Core.Logic.{_⊎_, inl, inr}
-use Prim.Native.Nat.{ℕ, _+_, _-_, _*_, _<_, _≤_}
+use mathlib.Core.Logic.{inl, inr}
+use Prim.Native.Nat.{ℕ, _+_, _-_, _*_}
 use native.Mathlib.Omega.{arith}
-use lib.Dec.{T, eqb}
+use lib.Dec.{T}
 use lib.ListN.{length, length-append}
 use Rattle.std.proofs.shelf.Ways.{tells}
-use Rattle.grammar.specs.declared.Field.{Field}
-use Rattle.grammar.specs.declared.Field.the-variants.{Class, Rating, Months, Issuer}
-use Rattle.grammar.specs.declared.Sign.{Sign}
-use Rattle.grammar.specs.declared.Sign.the-variants.{Equal, Less, Greater}
-use Rattle.grammar.specs.Grammar.{digit, leading, Digits, Number, Sort, Tree, letter, sign, digits, number, spell, value, amount, IsRule, Begins}
+use Rattle.grammar.specs.declared.Field.the-variants.{Class}
+use Rattle.grammar.specs.declared.Sign.the-variants.{Equal}
+use Rattle.grammar.specs.Grammar.{digit, leading, Digits, Tree, letter, sign, digits, number, spell, value, IsRule, Begins}
 use Rattle.grammar.specs.Grammar.Digits.{none, more}
 use Rattle.grammar.specs.Grammar.Number.{nought, figures}
-use Rattle.grammar.specs.Grammar.Sort.{rule, term, factor}
+use Rattle.grammar.specs.Grammar.Sort.{rule, factor}
 use Rattle.grammar.specs.Grammar.Tree.{one, or, sole, and, neg, group, test}
 use Rattle.grammar.proofs.Joining.{either, either-spelled, both, both-spelled}
-use Rattle.rule.specs.declared.marks.Mark.{Mark}
+use Rattle.rule.specs.declared.text.Mark.{Mark}
 use Rattle.rule.specs.declared.steps.Step.{Step}
-use Rattle.rule.specs.declared.levels.Level.{Level}
-use Rattle.rule.specs.declared.levels.Mode.{Mode}
-use Rattle.rule.specs.declared.levels.Mode.the-variants.{Want, Named, Signed, Counting, Done}
+use Rattle.rule.specs.declared.text.Level.{Level}
+use Rattle.rule.specs.declared.text.Mode.the-variants.{Want, Named, Signed, Counting, Done}
 use Rattle.rule.specs.Marks.{mark-of}
 use Rattle.rule.specs.Refusing.{first-digit}
 use Rattle.rule.specs.Machine.{State, next, scan, start, settle}

@@ -1,6 +1,6 @@
 pub mod Says
 pub mod Marks
-pub mod Pile
+pub mod Stack
 pub mod Machine
 pub mod Refusing
 pub mod Views

@@ -8,17 +8,17 @@ use mathlib.Core.List.{List, [], _∷_, _++_}
 use Prim.Native.Nat.{ℕ, _+_, _*_}
 use lib.Dec.{eqb}
 use lib.ListN.{length}
-use Rattle.rule.specs.declared.marks.Lead.{Lead}
-use Rattle.rule.specs.declared.marks.Lead.the-variants.{Letter, Not, Open}
-use Rattle.rule.specs.declared.marks.Follow.{Follow}
-use Rattle.rule.specs.declared.marks.Follow.the-variants.{And, Or, Close}
-use Rattle.rule.specs.declared.marks.Mark.{Mark}
-use Rattle.rule.specs.declared.marks.Mark.the-variants.{Lead as Leads, Compare, Digit, Follow as Follows, Other}
+use Rattle.rule.specs.declared.text.Lead.{Lead}
+use Rattle.rule.specs.declared.text.Lead.the-variants.{Letter, Not, Open}
+use Rattle.rule.specs.declared.text.Follow.{Follow}
+use Rattle.rule.specs.declared.text.Follow.the-variants.{And, Or, Close}
+use Rattle.rule.specs.declared.text.Mark.{Mark}
+use Rattle.rule.specs.declared.text.Mark.the-variants.{Lead as Leads, Compare, Digit, Follow as Follows, Other}
 use Rattle.rule.specs.declared.steps.Step.{Step}
 use Rattle.rule.specs.declared.steps.Step.the-variants.{Test, Negate, Both, Either}
-use Rattle.rule.specs.declared.levels.Level.{Level}
-use Rattle.rule.specs.declared.levels.Mode.{Mode}
-use Rattle.rule.specs.declared.levels.Mode.the-variants.{Want, Named, Signed, Counting, Done}
+use Rattle.rule.specs.declared.text.Level.{Level}
+use Rattle.rule.specs.declared.text.Mode.{Mode}
+use Rattle.rule.specs.declared.text.Mode.the-variants.{Want, Named, Signed, Counting, Done}
 use Rattle.rule.specs.Marks.{mark-of}
 
 pub data State : Type 0 where

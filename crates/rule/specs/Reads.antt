@@ -11,12 +11,12 @@ use Rattle.cause.specs.Numbers.{number as listed}
 use Rattle.grammar.specs.Grammar.{Least}
 use Rattle.rule.specs.declared.fault.TextFault.{TextFault}
 use Rattle.rule.specs.declared.held.Rule.{Rule}
-use Rattle.rule.specs.declared.marks.Mark.{Mark}
-use Rattle.rule.specs.declared.levels.Level.{Level}
-use Rattle.rule.specs.declared.levels.Mode.{Mode}
-use Rattle.rule.specs.declared.reader.Reader.{Reader}
+use Rattle.rule.specs.declared.text.Mark.{Mark}
+use Rattle.rule.specs.declared.text.Level.{Level}
+use Rattle.rule.specs.declared.text.Mode.{Mode}
+use Rattle.rule.specs.declared.text.reader.Reader.{Reader}
 use Rattle.rule.specs.declared.steps.Step.{Step}
-use Rattle.rule.specs.declared.levels.Mode.the-variants.{Want, Named, Signed, Counting, Done}
+use Rattle.rule.specs.declared.text.Mode.the-variants.{Want, Named, Signed, Counting, Done}
 use Rattle.rule.specs.Marks.{steps}
 use Rattle.rule.specs.Machine.{State, bit, ended, next, settle}
 use Rattle.rule.specs.Machine.State.{at}

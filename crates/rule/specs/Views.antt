@@ -4,10 +4,10 @@ use mathlib.Core.List.{List, [], _∷_}
 use Prim.Native.Nat.{ℕ, zero, suc}
 use lib.ListN.{getD, take}
 use Rattle.rule.specs.declared.steps.Step.{Step}
-use Rattle.rule.specs.declared.levels.Level.{Level}
-use Rattle.rule.specs.declared.brackets.Brackets.{Brackets}
+use Rattle.rule.specs.declared.text.Level.{Level}
+use Rattle.rule.specs.declared.text.brackets.Brackets.{Brackets}
 use Rattle.rule.specs.declared.held.Rule.{Rule}
-use Rattle.rule.specs.declared.reader.Reader.{Reader}
+use Rattle.rule.specs.declared.text.reader.Reader.{Reader}
 use Rattle.rule.specs.Machine.{State, fresh}
 use Rattle.rule.specs.Machine.State.{at}
 

@@ -8,14 +8,10 @@
 
 ghost use Rattle.rule.specs.Says.{Decided};
 
-mod brackets;
-mod checks;
 mod fault;
 mod held;
-mod levels;
-mod marks;
-mod reader;
 mod steps;
+mod text;
 
 pub use fault::TextFault;
 pub use held::Rule;

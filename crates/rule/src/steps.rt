@@ -1,11 +1,11 @@
-// The steps that a rule is written down as. They run over a pile of answers: a test puts an answer
+// The steps that a rule is written down as. They run over a stack of answers: a test puts an answer
 // on it, the others replace the last one or two.
 
 ghost use mathlib.Core.Path.{_≡_};
 ghost use mathlib.Core.Bool.{_&&_, _||_};
 ghost use Prim.Native.Nat.{_/_, _<_, _^_};
 ghost use Rattle.grammar.specs.Grammar.{field as asked, compares};
-ghost use Rattle.rule.specs.Pile.{act as acted, onto, top as last};
+ghost use Rattle.rule.specs.Stack.{act as acted, onto, top as last};
 use grammar::Description;
 use grammar::Field;
 use grammar::Sign;
@@ -39,40 +39,40 @@ fn compare(sign: Sign, a: u16, b: u16) -> bool
     }
 }
 
-// The pile is the bits of a number, the last answer lowest.
-fn put(pile: u64, answer: bool) -> u64
-    requires { ⌜ pile < 2 ^ 63 ⌝ }
-    ensures { λ r. ⌜ r ≡ onto answer pile ⌝ }
+// The stack is the bits of a number, the last answer lowest.
+fn push(stack: u64, answer: bool) -> u64
+    requires { ⌜ stack < 2 ^ 63 ⌝ }
+    ensures { λ r. ⌜ r ≡ onto answer stack ⌝ }
 {
-    if answer { pile * 2 + 1 } else { pile * 2 }
+    if answer { stack * 2 + 1 } else { stack * 2 }
 }
 
-pub fn top(pile: u64) -> bool
-    ensures { λ r. ⌜ r ≡ last pile ⌝ }
+pub fn top(stack: u64) -> bool
+    ensures { λ r. ⌜ r ≡ last stack ⌝ }
 {
-    pile % 2 == 1
+    stack % 2 == 1
 }
 
-fn both(pile: u64) -> bool
-    ensures { λ r. ⌜ r ≡ (last (pile / 2) && last pile) ⌝ }
+fn both(stack: u64) -> bool
+    ensures { λ r. ⌜ r ≡ (last (stack / 2) && last stack) ⌝ }
 {
-    if top(pile / 2) { top(pile) } else { false }
+    if top(stack / 2) { top(stack) } else { false }
 }
 
-fn either(pile: u64) -> bool
-    ensures { λ r. ⌜ r ≡ (last (pile / 2) || last pile) ⌝ }
+fn either(stack: u64) -> bool
+    ensures { λ r. ⌜ r ≡ (last (stack / 2) || last stack) ⌝ }
 {
-    if top(pile / 2) { true } else { top(pile) }
+    if top(stack / 2) { true } else { top(stack) }
 }
 
-pub fn act(step: Step, lot: Description, pile: u64) -> u64
-    requires { ⌜ pile < 2 ^ 63 ⌝ }
-    ensures { λ r. ⌜ r ≡ acted lot step pile ⌝ }
+pub fn act(step: Step, lot: Description, stack: u64) -> u64
+    requires { ⌜ stack < 2 ^ 63 ⌝ }
+    ensures { λ r. ⌜ r ≡ acted lot step stack ⌝ }
 {
     match step {
-        Step::Test(field, sign, number) => put(pile, compare(sign, field_of(field, lot), number)),
-        Step::Negate => put(pile / 2, !top(pile)),
-        Step::Both => put(pile / 2 / 2, both(pile)),
-        Step::Either => put(pile / 2 / 2, either(pile)),
+        Step::Test(field, sign, number) => push(stack, compare(sign, field_of(field, lot), number)),
+        Step::Negate => push(stack / 2, !top(stack)),
+        Step::Both => push(stack / 2 / 2, both(stack)),
+        Step::Either => push(stack / 2 / 2, either(stack)),
     }
 }

@@ -6,10 +6,10 @@ ghost use Rattle.rule.specs.Says.{says, Loaded};
 ghost use Rattle.rule.specs.Views.{code};
 use crate::fault::TextFault;
 use crate::held::Rule;
-use crate::reader::read;
 use crate::steps::Step;
 use crate::steps::act;
 use crate::steps::top;
+use crate::text::reader::read;
 use grammar::Description;
 
 impl Rule {
@@ -32,15 +32,15 @@ impl Rule {
         Ok(())
     }
 
-    // What the rule says of a lot: its steps are run over a pile of answers.
+    // What the rule says of a lot: its steps are run over a stack of answers.
     pub fn ask(&self, lot: Description) -> bool
         ensures { λ r. ⌜ r ≡ says (now (self .entry)) lot ⌝ }
     {
-        let mut pile: u64 = 0;
+        let mut stack: u64 = 0;
         for i in 0..self.len {
             let step = self.steps[i];
-            pile = act(step, lot, pile);
+            stack = act(step, lot, stack);
         }
-        top(pile)
+        top(stack)
     }
 }

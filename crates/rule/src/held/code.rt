@@ -7,8 +7,8 @@ ghost use lib.ListN.{length};
 ghost use Rattle.rule.specs.Machine.{bit, step-if, finished, ended as ended-by};
 ghost use Rattle.rule.specs.Views.{code as written};
 use crate::held::Rule;
-use crate::levels::Level;
 use crate::steps::Step;
+use crate::text::Level;
 
 impl Rule {
     pub(crate) fn push(&mut self, step: Step)

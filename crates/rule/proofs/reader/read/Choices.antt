@@ -1,9 +1,0 @@
-use mathlib.Core.Path.{_≡_}
-use Prim.Native.Nat.{_≤_}
-use lib.ListN.{length}
-use Rattle.rule.specs.Views.{waiting, code}
-use Rattle.rule.proofs.Reading.{Reading}
-use Rattle.rule.proofs.reader.read.Given as given
-
-abbrev pub Inv-loop-place : given.InvT-loop-place
-Inv-loop-place l = Reading (l .text) (l .reader .mode) (l .reader .level) (waiting (l .reader .outer)) (code (l .reader .rule)) (l .reader .count) (l .reader .digit) (l .place)
