@@ -1,17 +1,16 @@
--- Every binder keeps the four laws: a table by its test of the ranges and its bounded share, and a layer because it
--- asks what is below it only about numbers and lots that the pair or exclusion was asked about itself, or answers no.
+-- Every binder keeps the four laws. A single schedule holds number 0 alone, tests the ranges itself and has a share
+-- in range. An exclusion has the numbers and shares that are below it and admits less. A pair answers with what one of
+-- its binders says of a number below 16, whose laws serve, or has nothing there.
 
 use borrow.Author.Needs.{needs}
 use mathlib.Core.Bool.{Bool}
-use mathlib.Core.List.{List}
 use Prim.Native.Nat.{ℕ, _≤_}
-use Rattle.binder.specs.Meaning.{Meaning, Lawful}
+use Rattle.grammar.specs.declared.Description.{Description}
+use Rattle.binder.specs.Meaning.{Meaning, Lawful, single}
 use Rattle.binder.specs.Layers.{without, joined}
-use Rattle.binder.specs.Rating.{table}
-use Rattle.binder.specs.declared.limit.ClassLimit.{ClassLimit}
 
-pub table-lawful : (limits : List ClassLimit) (share : ℕ) → share ≤ 10000 → Lawful (table limits share)
-table-lawful limits share h = search needs
+pub single-lawful : (passes : Description → Bool) (share : ℕ) → share ≤ 10000 → Lawful (single passes share)
+single-lawful passes share h = search needs
 
 pub without-lawful : (s : ℕ → Bool) (m : Meaning) → Lawful m → Lawful (without s m)
 without-lawful s m law = search needs

@@ -1,3 +1,4 @@
 pub mod Flags
+pub mod Labels
 pub mod Lawfuls
 pub mod Pairs

@@ -12,7 +12,7 @@ use Rattle.std.proofs.shelf.Ways.{tells}
 use Rattle.grammar.specs.declared.Description.{Description}
 use Rattle.binder.specs.Meaning.{Meaning, Lawful, Same}
 use Rattle.binder.specs.Layers.{joined}
-use Rattle.binder.specs.Laws.{Pair-at-ends, Pairs-associate}
+use Rattle.binder.specs.Laws.{Pairs-associate}
 
 -- a lawful binder has nothing from number 16 on
 admits-past : (m : Meaning) → Lawful m → (n : ℕ) (d : Description) → 16 ≤ n → m .admits n d ≡ false

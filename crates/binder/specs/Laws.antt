@@ -2,10 +2,21 @@
 
 use mathlib.Core.Path.{_≡_}
 use mathlib.Core.Bool.{Bool, true, false}
+use mathlib.Core.List.{List}
 use Prim.Native.Nat.{ℕ, _+_, _≤_}
 use Rattle.grammar.specs.declared.Description.{Description}
 use Rattle.binder.specs.Meaning.{Meaning, Lawful, Same}
+use Rattle.binder.specs.Rating.{limit-of, table}
+use Rattle.binder.specs.declared.limit.ClassLimit.{ClassLimit}
 use Rattle.binder.specs.Layers.{without, joined}
+
+-- under a rating table a class of worst rating 0 has no lot that is admitted, and a lot that is admitted stays so with
+-- a better rating or a shorter term
+pub record Tables : Type 0 where
+  pub none : (limits : List ClassLimit) (share n : ℕ) (d : Description) → limit-of limits (d .class) .worst ≡ 0 → table limits share .admits n d ≡ false
+  pub better : (limits : List ClassLimit) (share n c r m i r′ m′ : ℕ) → 1 ≤ r′ → r′ ≤ r → m′ ≤ m
+      → table limits share .admits n (record { class = c; rating = r; months = m; issuer = i }) ≡ true
+      → table limits share .admits n (record { class = c; rating = r′; months = m′; issuer = i }) ≡ true
 
 -- an exclusion admits no listed issuer; otherwise it is what is below
 pub record Excludes : Type 0 where

@@ -1,6 +1,6 @@
 -- To believe: what an exclusion makes of the binder below it, and what a pair makes of its two binders.
 
-use mathlib.Core.Bool.{Bool, false, cond, not, _&&_}
+use mathlib.Core.Bool.{Bool, cond, not, _&&_}
 use Prim.Native.Nat.{ℕ, _-_}
 use lib.Dec.{ltb}
 use Rattle.binder.specs.Meaning.{Meaning}

@@ -5,7 +5,7 @@
 -- may cover under it. Whatever stands above a binder relies on nothing else.
 
 use mathlib.Core.Path.{_≡_}
-use mathlib.Core.Bool.{Bool, true, false, _&&_}
+use mathlib.Core.Bool.{Bool, true, false, cond, _&&_}
 use Prim.Native.Nat.{ℕ, _≤_}
 use lib.Dec.{eqb, leb}
 use Rattle.grammar.specs.declared.Description.{Description}
@@ -28,6 +28,14 @@ pub record Lawful (m : Meaning) : Type 0 where
   pub ranges : (n : ℕ) (d : Description) → in-range d ≡ false → m .admits n d ≡ false
   -- no share passes 10,000
   pub shares : (n i : ℕ) → m .share n i ≤ 10000
+
+-- one schedule under number 0: of the lots in range it admits those that pass, with one share for all issuers
+abbrev pub single : (Description → Bool) → ℕ → Meaning
+single passes share = record {
+  held = λ n. eqb n 0;
+  admits = λ n d. eqb n 0 && (in-range d && passes d);
+  share = λ n i. cond (eqb n 0) share 0;
+}
 
 -- two meanings that give the same answers
 pub record Same (a b : Meaning) : Type 0 where

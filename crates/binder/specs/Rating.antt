@@ -1,16 +1,16 @@
 -- To believe: what a rating table means, and what loading one does.
 
 use mathlib.Core.Path.{_≡_}
-use mathlib.Core.Bool.{Bool, cond, _&&_}
+use mathlib.Core.Bool.{_&&_}
 use mathlib.Core.List.{List}
 use Prim.Native.Nat.{ℕ, _<_, _≤_}
-use lib.Dec.{eqb, leb}
+use lib.Dec.{leb}
 use lib.ListN.{getD}
 use Rattle.std.specs.Results.{Cases}
 use Rattle.std.specs.declared.result.Result.{Result}
 use Rattle.cause.specs.declared.Cause.the-variants.{RangePassed}
-use Rattle.binder.specs.Meaning.{Meaning, in-range}
-use Rattle.binder.specs.declared.fault.LoadFault.{LoadFault}
+use Rattle.binder.specs.Meaning.{Meaning, single}
+use Rattle.binder.specs.declared.fault.TableFault.{TableFault}
 use Rattle.binder.specs.declared.limit.ClassLimit.{ClassLimit}
 use Rattle.binder.specs.declared.rating.RatingTable.{RatingTable}
 
@@ -18,14 +18,9 @@ use Rattle.binder.specs.declared.rating.RatingTable.{RatingTable}
 abbrev pub limit-of : List ClassLimit → ℕ → ClassLimit
 limit-of limits c = getD limits c (record { worst = 0; longest = 0 })
 
--- number 0 is held; under it a lot is admitted whose rating and months are no greater than the limit of its class
--- says, and one share serves all issuers
+-- a lot passes if its rating and its months are no greater than the limit of its class says
 abbrev pub table : List ClassLimit → ℕ → Meaning
-table limits share = record {
-  held = λ n. eqb n 0;
-  admits = λ n d. eqb n 0 && (in-range d && (leb (d .rating) (limit-of limits (d .class) .worst) && leb (d .months) (limit-of limits (d .class) .longest)));
-  share = λ n i. cond (eqb n 0) share 0;
-}
+table limits share = single (λ d. leb (d .rating) (limit-of limits (d .class) .worst) && leb (d .months) (limit-of limits (d .class) .longest)) share
 
 abbrev pub table-meaning : RatingTable → Meaning
 table-meaning t = table (t .limits) (t .share)
@@ -42,10 +37,10 @@ pub record Filled (share : ℕ) (limits : List ClassLimit) (after : RatingTable)
   pub limits-are : after .limits ≡ limits
 
 -- a number passes its range, and the table is as it was
-pub record Unfilled (share : ℕ) (limits : List ClassLimit) (before after : RatingTable) (e : LoadFault) : Type 0 where
+pub record Unfilled (share : ℕ) (limits : List ClassLimit) (before after : RatingTable) (e : TableFault) : Type 0 where
   pub passed : share ≤ 10000 → Limits-in-range limits → ⊥
   pub fault : e ≡ record { cause = RangePassed; place = 0 }
   pub kept : after ≡ before
 
-abbrev pub Filling : ℕ → List ClassLimit → RatingTable → RatingTable → Result (Unit {0}) LoadFault → Type 0
+abbrev pub Filling : ℕ → List ClassLimit → RatingTable → RatingTable → Result (Unit {0}) TableFault → Type 0
 Filling share limits before after r = Cases r (λ _. Filled share limits after) (Unfilled share limits before after)

@@ -1,6 +1,13 @@
-// The laws of layers, each in the contract of a function that has it proved.
+// The laws of tables and layers, each in the contract of a function that has it proved.
 
-ghost use Rattle.binder.specs.Laws.{Excludes, Exclusions-commute, Exclusions-distribute, Pair-at-ends, Pairs-associate, Layers-lawful};
+ghost use Rattle.binder.specs.Laws.{Tables, Excludes, Exclusions-commute, Exclusions-distribute, Pair-at-ends, Pairs-associate, Layers-lawful};
+
+// Worst rating 0 admits none, and a better rating or a shorter term is never a reason to refuse.
+pub fn tables_are_ordered() -> u8
+    ensures { λ _. ⌜ Tables ⌝ }
+{
+    0
+}
 
 // An exclusion takes out the listed issuers and nothing else, and in any order.
 pub fn exclusions_are_exact() -> u8

@@ -15,6 +15,7 @@ pub mod limit;
 pub mod pair;
 mod ranges;
 pub mod rating;
+pub mod schedule;
 pub mod switch;
 
 pub trait Binder {

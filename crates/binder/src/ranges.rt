@@ -1,7 +1,7 @@
 // The ranges that a lot's fields, a share and a class's limit are held against.
 
 ghost use mathlib.Core.Path.{_≡_};
-ghost use Prim.Native.Nat.{_≤_};
+ghost use lib.Dec.{leb};
 ghost use Rattle.std.specs.Orderings.{Decides};
 ghost use Rattle.binder.specs.Meaning.{in-range};
 ghost use Rattle.binder.specs.Rating.{Limits-in-range};
@@ -13,6 +13,12 @@ pub fn is_lot(lot: Description) -> bool
     ensures { λ r. ⌜ r ≡ in-range lot ⌝ }
 {
     lot.class <= 7 && lot.rating >= 1 && lot.rating <= 22 && lot.months <= 1200 && lot.issuer <= 255
+}
+
+pub fn is_share(share: u64) -> bool
+    ensures { λ r. ⌜ r ≡ leb share 10000 ⌝ }
+{
+    share <= 10_000
 }
 
 // Whether every class has its limit in range.

@@ -2,10 +2,11 @@ ghost use mathlib.Core.Path.{_≡_};
 ghost use Rattle.binder.specs.Meaning.{Meaning, Blank};
 ghost use Rattle.binder.specs.Rating.{table-meaning, Filling};
 use crate::Binder;
-use crate::fault::LoadFault;
+use crate::fault::TableFault;
 use crate::limit::ClassLimit;
 use crate::ranges::are_limits;
 use crate::ranges::is_lot;
+use crate::ranges::is_share;
 use crate::rating::RatingTable;
 use cause::Cause;
 use grammar::Description;
@@ -46,12 +47,13 @@ impl RatingTable {
     }
 
     // Loads the share and the limit of each class. A number out of range leaves the table.
-    pub fn load(&mut self, share: u64, limits: &[ClassLimit; 8]) -> Result<(), LoadFault>
+    pub fn load(&mut self, share: u64, limits: &[ClassLimit; 8]) -> Result<(), TableFault>
         ensures { λ r. ⌜ Filling share (now (limits .entry)) (now (self .entry)) (now (self .exit)) r ⌝ }
     {
-        let in_range = are_limits(limits);
-        if share > 10_000 || !in_range {
-            return Err(LoadFault {
+        let share_fits = is_share(share);
+        let limits_fit = are_limits(limits);
+        if !share_fits || !limits_fit {
+            return Err(TableFault {
                 cause: Cause::RangePassed,
                 place: 0,
             });
