@@ -21,6 +21,7 @@ pub const MAX_ARCS: usize = 4096;
 pub const MAX_ENDS: usize = 8192;
 
 /// A list of arcs, to which more are added. `ends[2k]` is the head of the arc k, and `ends[2k + 1]` its tail. The capacities add up to `total`.
+#[derive(Drop)]
 pub struct ArcList {
     pub nodes: usize,
     pub source: usize,
@@ -37,6 +38,7 @@ pub struct ArcList {
 }
 
 /// The network of a list of arcs, with the residual arcs that leave a node v side by side: `degree[v]` of them from `rows[start[v]]` on.
+#[derive(Drop)]
 pub struct StoredNetwork {
     pub list: ArcList,
     pub degree: [u32; MAX_NODES],
