@@ -4,3 +4,5 @@ pub mod Nearer
 pub mod Blocking
 pub mod Sending
 pub mod Running
+pub mod Rows
+pub mod StoredLaws

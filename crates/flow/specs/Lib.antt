@@ -3,3 +3,5 @@ pub mod Lawful
 pub mod Search
 pub mod Blocking
 pub mod Solved
+pub mod Stored
+pub mod Built

@@ -144,9 +144,7 @@ pub(crate) fn block<G: Network>(
     requires flows { ⌜ Flow (net (now network)) (at (now flow)) ⌝ }
     ensures { λ _. ⌜ Filled (net (now (network .entry))) (at (now (flow .entry))) (at (now (flow .exit))) (at (now (mark .entry))) ⌝ }
 {
-    for c in cursor.iter_mut() {
-        *c = 0;
-    }
+    cursor.fill(0);
     stack[0] = network.source() as u32;
     let mut d = descend(network, flow, mark, cursor, path, stack, 0);
     while d > 0 {

@@ -55,9 +55,7 @@ pub(crate) fn layers<G: Network>(network: &G, flow: &[u64], mark: &mut [u32], qu
     requires sizes { ⌜ (length (now flow) ≡ net (now network) .arcs) × (net (now network) .nodes ≤ length (now mark)) × (net (now network) .nodes ≤ length (now queue)) ⌝ }
     ensures { λ _. ⌜ Searched (net (now (network .entry))) (at (now (flow .entry))) (at (now (mark .exit))) ⌝ }
 {
-    for m in mark.iter_mut() {
-        *m = 0;
-    }
+    mark.fill(0);
     let s = network.source();
     let t = network.sink();
     mark[s] = 1;

@@ -94,9 +94,7 @@ pub fn maximize_from_zero<G: Network>(
     ensures { λ r. ⌜ Outcome (net (now (network .entry))) (λ _. 0) (now (flow .entry)) (now (mark .entry)) (now (queue .entry)) (now (cursor .entry)) (now (path .entry)) (now (flow .exit)) (now (mark .exit)) (now (queue .exit)) (now (cursor .exit)) (now (path .exit)) r ⌝ }
 {
     check(network, flow, mark, queue, cursor, path)?;
-    for f in flow.iter_mut() {
-        *f = 0;
-    }
+    flow.fill(0);
     Ok(run(network, flow, mark, queue, cursor, path))
 }
 

@@ -1,21 +1,12 @@
 use mathlib.Core.Path.{_≡_, refl, sym, ap, subst, _∙_}
-use mathlib.Core.Logic.{_≢_}
 use Prim.Native.Nat.{ℕ, _+_, _-_, _<_, _≤_}
 use native.Mathlib.Omega.{arith}
 use lib.ListN.{length, length-set}
-use borrow.Author.Count.{below-more}
-use Rattle.std.proofs.shelf.Lists.{getD-set-same, getD-set-other}
 use Rattle.flow.specs.Lists.{at}
-use Rattle.flow.proofs.Lists.{put}
+use Rattle.flow.proofs.Lists.{put, zeros}
 use Rattle.flow.proofs.Blocking.{cursors-none, walk-start}
 use Rattle.flow.proofs.Sending.{Filling, found-trail, found-deep, sent-flows, sent-slack, sent-only, sent-walk, filled}
 use Rattle.flow.proofs.block.block.Needs as need
-
-pub loop-c-again : need.loop-c-again
-loop-c-again g c =
-    below-more _ _
-    (λ k h. let ne : k ≢ c .loop-c .c-index = omega arith in rw getD-set-other (c .loop-c .inv k h))
-    (let lt : c .loop-c .c-index < length (c .loop-c .cursor) = omega arith in rw getD-set-same)
 
 pub cast-stack : need.cast-stack
 cast-stack g c = let L = g .G·Network·met .lawful (c .args .network .now) in omega (arith, c .source .ensures, L .sound .source-in, L .few-nodes)
@@ -24,10 +15,10 @@ pub descend-d-requires : need.descend-d-requires
 descend-d-requires g c κs =
     let L = g .G·Network·met .lawful (c .args .network .now) in
     record {
-      sizes = (c .pre .sizes .0, c .pre .sizes .1, omega (arith, c .pre .sizes, c .loop-c .kept .cursor), c .pre .sizes .3, omega (arith, c .pre .sizes, length-set (c .args .stack .now) 0 (c .source .result)));
+      sizes = (c .pre .sizes .0, c .pre .sizes .1, omega (arith, c .pre .sizes, c .fill .ensures .len), c .pre .sizes .3, omega (arith, c .pre .sizes, length-set (c .args .stack .now) 0 (c .source .result)));
       marks = c .pre .marks;
       midway = walk-start L (c .pre .marks) _ _ _ (put (c .args .stack .now) 0 (c .source .result) (omega (arith, c .pre .sizes, L .sound .source-in)) .0 ∙ c .source .ensures)
-          (cursors-none _ _ _ _ _ _ (λ v h. c .loop-c .inv v (omega (arith, c .pre .sizes, c .loop-c-test .left))));
+          (cursors-none _ _ _ _ _ _ (λ v h. zeros _ _ (c .fill .ensures .after (λ y e. e)) v));
     }
 
 pub loop-d-holds : need.loop-d-holds
@@ -38,7 +29,7 @@ descend-d-requires-in-loop-d g c κs = record {
   sizes = (
     omega (arith, c .pre .sizes, c .loop-d .kept .flow, c .send .kept .flow),
     c .pre .sizes .1,
-    omega (arith, c .pre .sizes, c .loop-c .kept .cursor, c .descend-d .kept .cursor, c .loop-d .kept .cursor),
+    omega (arith, c .pre .sizes, c .fill .ensures .len, c .descend-d .kept .cursor, c .loop-d .kept .cursor),
     omega (arith, c .pre .sizes, c .descend-d .kept .path, c .loop-d .kept .path),
     omega (arith, c .pre .sizes, length-set (c .args .stack .now) 0 (c .source .result), c .descend-d .kept .stack, c .loop-d .kept .stack),
   );

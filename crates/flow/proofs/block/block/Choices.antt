@@ -1,11 +1,6 @@
-use mathlib.Core.Path.{_≡_}
-use Prim.Native.Nat.{ℕ, _<_}
 use Rattle.flow.specs.Lists.{at}
 use Rattle.flow.proofs.Sending.{Filling, slack}
 use Rattle.flow.proofs.block.block.Given as given
-
-abbrev pub Inv-loop-c : given.InvT-loop-c
-Inv-loop-c g l = (k : ℕ) → k < l .c-index → at (l .cursor) k ≡ 0
 
 abbrev pub Inv-loop-d : given.InvT-loop-d
 Inv-loop-d g l = Filling (g .G·Network .net (l .network)) (g .G·Network .deg (l .network)) (g .G·Network .inc (l .network)) (at (l .entry .flow)) (at (l .flow)) (at (l .mark)) (at (l .cursor)) (at (l .path)) (at (l .stack)) (l .d)

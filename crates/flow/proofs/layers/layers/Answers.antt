@@ -1,28 +1,19 @@
 use mathlib.Core.Path.{_≡_, refl, sym, ap, subst, _∙_}
-use mathlib.Core.Logic.{_≢_}
 use Prim.Native.Nat.{ℕ, _+_, _-_, _<_, _≤_}
 use native.Mathlib.Omega.{arith}
 use lib.ListN.{length, set}
-use borrow.Author.Count.{below-more}
-use Rattle.std.proofs.shelf.Lists.{getD-set-same, getD-set-other}
 use Rattle.flow.specs.Lists.{at}
-use Rattle.flow.proofs.Lists.{put, put-at}
+use Rattle.flow.proofs.Lists.{put, put-at, zeros}
 use Rattle.flow.proofs.Bfs.{bfs-start, bfs-fits, bfs-hand}
 use Rattle.flow.proofs.Nearer.{bfs-searched}
 use Rattle.flow.proofs.layers.layers.Needs as need
-
-pub loop-m-again : need.loop-m-again
-loop-m-again g c =
-    below-more _ _
-    (λ k h. let ne : k ≢ c .loop-m .m-index = omega arith in rw getD-set-other (c .loop-m .inv k h))
-    (let lt : c .loop-m .m-index < length (c .loop-m .mark) = omega arith in rw getD-set-same)
 
 pub loop-done-holds : need.loop-done-holds
 loop-done-holds g c =
     let L = g .G·Network·met .lawful (c .args .network .now) in
     let e = c .source-s .ensures in
-    bfs-start _ _ _ _ _ (L .sound) (λ v h. c .loop-m .inv v (omega (arith, c .pre .sizes, c .loop-m-test .left)))
-    (put-at (c .loop-m .mark) (c .source-s .result) 1 _ e (omega (arith, L .sound .source-in, c .pre .sizes)))
+    bfs-start _ _ _ _ _ (L .sound) (λ v h. zeros _ _ (c .fill .ensures .after (λ y e. e)) v)
+    (put-at (c .fill .last .self) (c .source-s .result) 1 _ e (omega (arith, L .sound .source-in, c .pre .sizes)))
     (put (c .args .queue .now) 0 (c .source-s .result) (omega (arith, L .sound .source-in, c .pre .sizes)) .0 ∙ e)
 
 pub add-done : need.add-done

@@ -1,11 +1,7 @@
-use mathlib.Core.Path.{_≡_}
-use Prim.Native.Nat.{ℕ, _<_, _-_}
+use Prim.Native.Nat.{_-_}
 use Rattle.flow.specs.Lists.{at}
 use Rattle.flow.specs.Search.{Bfs}
 use Rattle.flow.proofs.layers.layers.Given as given
-
-abbrev pub Inv-loop-m : given.InvT-loop-m
-Inv-loop-m g l = (k : ℕ) → k < l .m-index → at (l .mark) k ≡ 0
 
 abbrev pub Inv-loop-done : given.InvT-loop-done
 Inv-loop-done g l = Bfs (g .G·Network .net (l .network)) (at (l .flow)) (at (l .mark)) (at (l .queue)) (l .done) (l .count)
