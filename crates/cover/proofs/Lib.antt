@@ -4,3 +4,4 @@ pub mod Rows
 pub mod Picture
 pub mod Loading
 pub mod Allocating
+pub mod Written

@@ -5,3 +5,4 @@ pub mod Picture
 pub mod Numbered
 pub mod Loading
 pub mod Answer
+pub mod Written

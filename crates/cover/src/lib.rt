@@ -11,5 +11,6 @@ mod position;
 mod problem;
 mod record;
 
+pub use allocate::written_serves;
 pub use problem::Problem;
 pub use record::Record;
