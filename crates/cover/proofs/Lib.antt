@@ -4,4 +4,3 @@ pub mod Rows
 pub mod Picture
 pub mod Loading
 pub mod Allocating
-pub mod Written

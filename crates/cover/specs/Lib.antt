@@ -5,4 +5,3 @@ pub mod Picture
 pub mod Numbered
 pub mod Loading
 pub mod Answer
-pub mod Written

@@ -12,7 +12,6 @@ ghost use Rattle.cover.specs.View.{at, pledge};
 ghost use Rattle.cover.specs.Seen.{seen};
 ghost use Rattle.cover.specs.Picture.{pictured};
 ghost use Rattle.cover.specs.Answer.{Allocated};
-ghost use Rattle.cover.specs.Written.{WrittenServes};
 use crate::Problem;
 use crate::Record;
 use crate::answer::answer;
@@ -79,11 +78,4 @@ impl Problem {
         }
         answer(rounds, given, owed)
     }
-}
-
-// A problem in which the answers of a situation are written down serves for the situation: see `Written`.
-pub fn written_serves() -> u8
-    ensures { λ _. ⌜ WrittenServes ⌝ }
-{
-    0
 }

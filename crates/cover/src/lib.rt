@@ -11,6 +11,5 @@ mod position;
 mod problem;
 mod record;
 
-pub use allocate::written_serves;
 pub use problem::Problem;
 pub use record::Record;

@@ -57,7 +57,7 @@ module _ (s r : Situation) (w : Agrees s r) where
     | inr y ↦ cond-false _ _ _ y ∙ sym (cond-false _ _ _ (sym (w .held l h) ∙ y))
   ]
 
-  pub leads-same : (t : ℕ) → t < 64 → leads s t ≡ leads r t
+  leads-same : (t : ℕ) → t < 64 → leads s t ≡ leads r t
   leads-same t h = and-same _ _ _ _ (w .held t h) (λ y. ap (λ x. eqb x t) (slot-same t h))
 
   limit-same : (t e : ℕ) → t < 64 → e < 16 → s .held t ≡ true → s .opened e ≡ true → s .limit e (s .issuer t) ≡ r .limit e (r .issuer t)
