@@ -12,7 +12,7 @@ use Rattle.network.specs.Sums.{Sum, when}
 use Rattle.network.proofs.Sums.{sum-start, sum-more, hit, miss}
 use Rattle.table.proofs.Sums.{sum-front, sum-below, when-low}
 use Rattle.cover.specs.View.{at}
-use Rattle.cover.specs.Drawing.{lotsOf, Counted, Lots, Rowed, Ranked}
+use Rattle.cover.specs.Drawing.{lotsOf, Counted, Ranked, Rows}
 use Rattle.cover.proofs.Lists.{set-here, set-there, add-at}
 
 one-or-none : (t : ℕ) (slots : List ℕ) (l : ℕ) → when (eqb t (at slots l)) 1 ≤ 1
@@ -30,43 +30,42 @@ lots-before slots k n h =
 pub count-low : (slots counts : List ℕ) (l : ℕ) → Counted slots counts l → l < 64 → at slots l < 64 → at counts (at slots l) < 64
 count-low slots counts l counted low slot-low = omega (arith, counted (at slots l) slot-low, lots-few slots (at slots l) l)
 
-module _ (slots members counts : List ℕ) (l : ℕ) (len : length members ≡ 4096) (len-c : length counts ≡ 64) (low : l < 64) (slot-low : at slots l < 64)
-    (counted : Counted slots counts l) (lots : Lots members counts) (rowed : Rowed slots members counts) (ranked : Ranked slots members l) where
-  abbrev pub here : ℕ
+module _ (slots members counts : List ℕ) (l : ℕ) (len : length members ≡ 4096) (len-c : length counts ≡ 64) (low : l < 64) (slot-low : at slots l < 64) (rows : Rows slots members counts l) where
+  abbrev here : ℕ
   here = at slots l * 64 + at counts (at slots l)
 
   here-low : at counts (at slots l) < 64
-  here-low = count-low slots counts l counted low slot-low
+  here-low = count-low slots counts l (rows .counted) low slot-low
 
   turned : (a b : ℕ) → when (eqb a b) 1 ≡ when (eqb b a) 1
   turned a b = elim (cases-eq a b) [ inl e ↦ hit a b 1 e ∙ sym (hit b a 1 (sym e)) | inr n ↦ miss a b 1 n ∙ sym (miss b a 1 (λ e. n (sym e))) ]
 
-  pub counted-more : Counted slots (set counts (at slots l) (at counts (at slots l) + 1)) (l + 1)
-  counted-more t h = omega (arith, add-at counts (at slots l) 1 t (omega arith), turned (at slots l) t, counted t h, sum-more l (λ k. when (eqb t (at slots k)) 1))
+  counted-more : Counted slots (set counts (at slots l) (at counts (at slots l) + 1)) (l + 1)
+  counted-more t h = omega (arith, add-at counts (at slots l) 1 t (omega arith), turned (at slots l) t, rows .counted t h, sum-more l (λ k. when (eqb t (at slots k)) 1))
 
   -- an entry of another place stays
   elsewhere : (t i : ℕ) → t < 64 → i < 64 → ((t ≡ at slots l) × (i ≡ at counts (at slots l)) → ⊥) → at (set members here l) (t * 64 + i) ≡ at members (t * 64 + i)
   elsewhere t i h j n = set-there members here l (t * 64 + i) (λ e. n (omega (arith, here-low), omega (arith, here-low)))
 
-  pub ranked-more : Ranked slots (set members here l) (l + 1)
+  ranked-more : Ranked slots (set members here l) (l + 1)
   ranked-more k h = elim (cases-eq k l) [
     | inl e ↦
-        let q : at slots k * 64 + lotsOf slots (at slots k) k ≡ here = ap (λ k. at slots k * 64 + lotsOf slots (at slots k) k) e ∙ omega (arith, counted (at slots l) slot-low) in
+        let q : at slots k * 64 + lotsOf slots (at slots k) k ≡ here = ap (λ k. at slots k * 64 + lotsOf slots (at slots k) k) e ∙ omega (arith, rows .counted (at slots l) slot-low) in
         ap (at (set members here l)) q ∙ set-here members here l (omega (arith, here-low)) ∙ sym e
     | inr d ↦
         elim (cases-lt (at slots k) 64) [
           | inl m ↦
               elsewhere (at slots k) (lotsOf slots (at slots k) k) m (omega (arith, lots-few slots (at slots k) k))
-              (λ e. omega (arith, e .0, e .1, counted (at slots l) slot-low, ap (λ t. lotsOf slots t l) (e .0), lots-before slots k l (omega arith)))
-              ∙ ranked k (omega arith)
-          | inr m ↦ set-there members here l _ (λ e. omega (arith, here-low)) ∙ ranked k (omega arith)
+              (λ e. omega (arith, e .0, e .1, rows .counted (at slots l) slot-low, ap (λ t. lotsOf slots t l) (e .0), lots-before slots k l (omega arith)))
+              ∙ rows .ranked k (omega arith)
+          | inr m ↦ set-there members here l _ (λ e. omega (arith, here-low)) ∙ rows .ranked k (omega arith)
         ]
   ]
 
-  pub rowed-more : (t i : ℕ) → (t < 64) × (i < at (set counts (at slots l) (at counts (at slots l) + 1)) t) → (at (set members here l) (t * 64 + i) < 64) × (at slots (at (set members here l) (t * 64 + i)) ≡ t)
+  rowed-more : (t i : ℕ) → (t < 64) × (i < at (set counts (at slots l) (at counts (at slots l) + 1)) t) → (at (set members here l) (t * 64 + i) < 64) × (at slots (at (set members here l) (t * 64 + i)) ≡ t)
   rowed-more t i h =
       let c = add-at counts (at slots l) 1 t (omega arith) in
-      let few : at counts t < 65 = omega (arith, counted t (h .0), lots-few slots t l) in
+      let few : at counts t < 65 = omega (arith, rows .counted t (h .0), lots-few slots t l) in
       elim (cases-eq t (at slots l)) [
         | inl e ↦ elim (cases-eq i (at counts (at slots l))) [
           | inl q ↦
@@ -82,8 +81,15 @@ module _ (slots members counts : List ℕ) (l : ℕ) (len : length members ≡ 4
       ]
     where
       same : (t i : ℕ) → t < 64 → i < at counts t → i < 64 → ((t ≡ at slots l) × (i ≡ at counts (at slots l)) → ⊥) → (at (set members here l) (t * 64 + i) < 64) × (at slots (at (set members here l) (t * 64 + i)) ≡ t)
-      same t i h j m n = let e = elsewhere t i h m n in (omega (arith, lots t i (h, j)), ap (at slots) e ∙ rowed t i (h, j))
+      same t i h j m n = let e = elsewhere t i h m n in (omega (arith, rows .known t i (h, j)), ap (at slots) e ∙ rows .rowed t i (h, j))
 
-pub rows-start : (slots members counts : List ℕ) → ((t : ℕ) → t < 64 → at counts t ≡ 0) → Counted slots counts 0 × Lots members counts × Rowed slots members counts
-rows-start slots members counts z =
-    (λ t h. z t h ∙ sym (sum-start (λ l. when (eqb t (at slots l)) 1)), λ t i h. absurd (omega (arith, z t (h .0))), λ t i h. absurd (omega (arith, z t (h .0))))
+  pub rows-more : Rows slots (set members here l) (set counts (at slots l) (at counts (at slots l) + 1)) (l + 1)
+  rows-more = record { counted = counted-more; known = λ t i h. rowed-more t i h .0; rowed = λ t i h. rowed-more t i h .1; ranked = ranked-more }
+
+pub rows-start : (slots members counts : List ℕ) → ((t : ℕ) → t < 64 → at counts t ≡ 0) → Rows slots members counts 0
+rows-start slots members counts z = record {
+  counted = λ t h. z t h ∙ sym (sum-start (λ l. when (eqb t (at slots l)) 1));
+  known = λ t i h. absurd (omega (arith, z t (h .0)));
+  rowed = λ t i h. absurd (omega (arith, z t (h .0)));
+  ranked = λ l h. absurd (omega arith);
+}

@@ -39,3 +39,10 @@ Ranked slots members n = (l : ℕ) → l < n → at members (at slots l * 64 + l
 pub record First (s : Situation) (first : List ℕ) (n : ℕ) : Type 0 where
   pub before : (i k : ℕ) → i < 256 → k < at first i → k < n → ofIssuer s i k ≡ false
   pub found : (i : ℕ) → i < 256 → (at first i ≡ 64) ⊎ ((at first i < n) × (ofIssuer s i (at first i) ≡ true))
+
+-- all of it, of the first n lots
+pub record Rows (slots members counts : List ℕ) (n : ℕ) : Type 0 where
+  pub counted : Counted slots counts n
+  pub known : Lots members counts
+  pub rowed : Rowed slots members counts
+  pub ranked : Ranked slots members n

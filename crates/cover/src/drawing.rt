@@ -9,7 +9,7 @@ ghost use Rattle.table.specs.Drawn.{slot, arc, capOf};
 ghost use Rattle.table.specs.Drawn.Arc.{supply, offer, bound, demand};
 ghost use Rattle.cover.specs.View.{at};
 ghost use Rattle.cover.specs.Seen.{seen};
-ghost use Rattle.cover.specs.Drawing.{Slotted, Capacities, Counted, Lots, Rowed, Ranked, First};
+ghost use Rattle.cover.specs.Drawing.{Slotted, Capacities, Rows, First};
 use crate::Problem;
 use crate::drawn::Drawn;
 
@@ -115,10 +115,7 @@ pub fn capacities(problem: &Problem, slots: &[usize; 64]) -> [u64; 2128]
 // The lots of each slot: `counts[t]` of them have the slot `t`, and stand in the row of 64 places of `t`.
 pub fn rows(slots: &[usize; 64], members: &mut [u8; 4096], counts: &mut [usize; 64])
     requires { ⌜ ((l : ℕ) → l < 64 → at (now slots) l < 64) ⌝ ∗ ⌜ ((t : ℕ) → t < 64 → at (now counts) t ≡ 0) ⌝ }
-    ensures counted { λ _. ⌜ Counted (now (slots .entry)) (now (counts .exit)) 64 ⌝ }
-    ensures lots { λ _. ⌜ Lots (now (members .exit)) (now (counts .exit)) ⌝ }
-    ensures rowed { λ _. ⌜ Rowed (now (slots .entry)) (now (members .exit)) (now (counts .exit)) ⌝ }
-    ensures ranked { λ _. ⌜ Ranked (now (slots .entry)) (now (members .exit)) 64 ⌝ }
+    ensures { λ _. ⌜ Rows (now (slots .entry)) (now (members .exit)) (now (counts .exit)) 64 ⌝ }
 {
     for l in 0..64 {
         let t = slots[l];

@@ -151,26 +151,34 @@ module _ (s : Situation) where
     exposure-sum e j = sym (by-cells (λ l. table-of f l e)) ∙ sum-same 64 _ _ (λ t h. bal .cells t e h j) ∙ bal .exposures e j
 
     -- the held lots of an issuer have its slot
+    of-slot : (i l x : ℕ) → when (ofIssuer s i l) x ≤ when (eqb (slotOf s i) (slot s l)) x
+    of-slot i l x = elim (cases-bool (ofIssuer s i l)) [
+      | inl a ↦
+          let b = and-parts (s .held l) _ a in
+          omega (arith, when-low (ofIssuer s i l) x, hit (slotOf s i) (slot s l) x (ap (slotOf s) (sym (eqb-true _ _ (b .1))) ∙ sym (slot-issuer s l (b .0))))
+      | inr a ↦ omega (arith, cond-false (ofIssuer s i l) x 0 a)
+    ]
+
+    -- and an issuer of no held lot has no pledges
+    no-lots : (i e : ℕ) → ofIssuer s i (slotOf s i) ≡ false → Sum 64 (λ l. when (ofIssuer s i l) (table-of f l e)) ≡ 0
+    no-lots i e n = sum-none 64 _ (λ l h. cond-false (ofIssuer s i l) (table-of f l e) 0 (
+        elim (cases-bool (ofIssuer s i l)) [ inl a ↦ absurd (both-ways _ n (slotOf-held s i l h a)) | inr a ↦ a ]))
+
     issuer-sum : (e i : ℕ) → e < 16 → s .opened e ≡ true → Sum 64 (λ l. when (ofIssuer s i l) (table-of f l e)) ≤ s .limit e i
     issuer-sum e i j o =
         elim (cases-bool (ofIssuer s i (slotOf s i))) [
           | inl y ↦
               let low = slotOf-low s i in
               let is : s .issuer (slotOf s i) ≡ i = eqb-true _ _ (and-parts (s .held (slotOf s i)) _ y .1) in
-              let le : Sum 64 (λ l. when (ofIssuer s i l) (table-of f l e)) ≤ Sum 64 (λ l. when (eqb (slotOf s i) (slot s l)) (table-of f l e)) =
-              sum-le 64 (λ l. when (ofIssuer s i l) (table-of f l e)) (λ l. when (eqb (slotOf s i) (slot s l)) (table-of f l e)) (λ l h.
-              when-only (eqb (slotOf s i) (slot s l)) _ _ (λ _. when-low _ _) (λ n. cond-false (ofIssuer s i l) (table-of f l e) 0 (
-              elim (cases-bool (ofIssuer s i l)) [
-                | inl a ↦ let b = and-parts (s .held l) _ a in absurd (eqb-false _ _ n (ap (slotOf s) (sym (eqb-true _ _ (b .1))) ∙ sym (slot-issuer s l (b .0))))
-                | inr a ↦ a
-              ]))) in
-              omega (arith, bal .cells (slotOf s i) e low j, cap-bound (slotOf s i) e low j, when-low (leads s (slotOf s i) && s .opened e) (s .limit e (s .issuer (slotOf s i))), ap (s .limit e) is)
-          | inr n ↦
               omega (
                 arith,
-                sum-none 64 (λ l. when (ofIssuer s i l) (table-of f l e)) (λ l h. cond-false (ofIssuer s i l) (table-of f l e) 0 (
-                    elim (cases-bool (ofIssuer s i l)) [ inl a ↦ absurd (both-ways _ n (slotOf-held s i l h a)) | inr a ↦ a ])),
+                sum-le 64 (λ l. when (ofIssuer s i l) (table-of f l e)) (λ l. when (eqb (slotOf s i) (slot s l)) (table-of f l e)) (λ l h. of-slot i l (table-of f l e)),
+                bal .cells (slotOf s i) e low j,
+                cap-bound (slotOf s i) e low j,
+                when-low (leads s (slotOf s i) && s .opened e) (s .limit e (s .issuer (slotOf s i))),
+                ap (s .limit e) is,
               )
+          | inr n ↦ omega (arith, no-lots i e n)
         ]
 
     pub flow-lawful : Lawful s (table-of f)

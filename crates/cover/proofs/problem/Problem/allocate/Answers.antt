@@ -12,7 +12,7 @@ use Rattle.cover.specs.View.{at, pledge}
 use Rattle.cover.specs.Seen.{seen}
 use Rattle.cover.specs.Picture.{pictured}
 use Rattle.cover.specs.Answer.{noted, Allocated}
-use Rattle.cover.proofs.Allocating.{given-low, allocated, lacking}
+use Rattle.cover.proofs.Allocating.{Run, given-low, allocated, lacking}
 use Rattle.cover.proofs.problem.Problem.allocate.Needs as need
 use Rattle.cover.proofs.problem.Problem.allocate.Needs.{then-given-owed, else-given-owed, Joined-given-owed}
 
@@ -20,11 +20,15 @@ use Rattle.cover.proofs.problem.Problem.allocate.Needs.{then-given-owed, else-
 same : (c : Joined-given-owed) → pictured (c .begin-position .result .drawn) ≡ seen (c .args .self .now)
 same c = ap pictured (c .begin-position .ensures .drawn) ∙ ap seen (c .draw .ensures)
 
-solved : (c : Joined-given-owed) → Solved (net-of (seen (c .args .self .now))) (at (c .begin-position .result .first)) (at (c .solve-rounds .last .flow)) (at (c .solve-rounds .last .mark)) (c .solve-rounds .result)
-solved c = subst (λ s. Solved (net-of s) (at (c .begin-position .result .first)) (at (c .solve-rounds .last .flow)) (at (c .solve-rounds .last .mark)) (c .solve-rounds .result)) (same c) (c .solve-rounds .ensures)
+run : (c : Joined-given-owed) → Run (seen (c .args .self .now)) (at (c .begin-position .result .first)) (at (c .solve-rounds .last .flow)) (at (c .solve-rounds .last .mark)) (c .solve-rounds .result) (c .value-given .result) (c .owed-in-owed .result)
+run c = record {
+  solved = subst (λ s. Solved (net-of s) (at (c .begin-position .result .first)) (at (c .solve-rounds .last .flow)) (at (c .solve-rounds .last .mark)) (c .solve-rounds .result)) (same c) (c .solve-rounds .ensures);
+  sum = c .value-given .ensures;
+  owing = c .owed-in-owed .ensures;
+}
 
 pub answer-requires : need.answer-requires
-answer-requires c κs = given-low (seen (c .args .self .now)) (at (c .begin-position .result .first)) (at (c .solve-rounds .last .flow)) (at (c .solve-rounds .last .mark)) (c .solve-rounds .result) (c .value-given .result) (c .owed-in-owed .result) (solved c) (c .value-given .ensures) (c .owed-in-owed .ensures)
+answer-requires c κs = given-low (run c)
 
 -- the answer in either case
 answered : (c : Joined-given-owed) → Allocated (seen (c .args .self .now)) (c .args .table .now) (c .if-given-owed .table) (c .args .shortage .now) (c .if-given-owed .shortage)
@@ -33,14 +37,14 @@ answered c =
     elim (c .if-given-owed .came) [
       | then-given-owed w ↦
           let b = c .begin-position .ensures .begins in
-          allocated (seen (c .args .self .now)) (at (c .begin-position .result .first)) (at (c .solve-rounds .last .flow)) (at (c .solve-rounds .last .mark)) (c .solve-rounds .result) (c .value-given .result) (c .owed-in-owed .result) (solved c) (c .value-given .ensures) (c .owed-in-owed .ensures)
+          allocated (run c)
           (c .args .table .now) (c .if-given-owed .table) (c .args .shortage .now) (c .if-given-owed .shortage)
           (b .0) (subst (λ s. Begins s (pledge (c .args .table .now)) (at (c .begin-position .result .first)) (b .0)) (ap seen (c .draw .ensures)) (b .1))
           (w .if-given-owed .taken)
           (subst (λ t. SameTable (table-of (at (c .solve-rounds .last .flow))) (pledge t)) (sym (w .table-is)) (w .store .ensures))
           (w .shortage-is)
       | else-given-owed w ↦
-          lacking (seen (c .args .self .now)) (at (c .begin-position .result .first)) (at (c .solve-rounds .last .flow)) (at (c .solve-rounds .last .mark)) (c .solve-rounds .result) (c .value-given .result) (c .owed-in-owed .result) (solved c) (c .value-given .ensures) (c .owed-in-owed .ensures)
+          lacking (run c)
           (c .args .table .now) (c .if-given-owed .table) (c .args .shortage .now) (c .if-given-owed .shortage)
           (w .if-given-owed .left)
           (subst (λ r. SameMarks (noted r) (marks-of (seen (c .args .self .now)) (λ v. ltb 0 (at (c .solve-rounds .last .mark) v)))) (sym (w .shortage-is))
