@@ -1,0 +1,5 @@
+pub mod Numerals
+pub mod Words
+pub mod Says
+pub mod Reasons
+pub mod Adding
