@@ -3,3 +3,4 @@ pub mod Words
 pub mod Says
 pub mod Reasons
 pub mod Adding
+pub mod Playing

@@ -53,11 +53,12 @@ impl Reason {
         }
     }
 
-    // Why a lot is refused: the first of its fields that is outside its range.
+    // Why a lot is refused: its place, or the first of its fields that is outside its range.
     pub fn of_lot(cause: Cause, terms: &Terms) -> Reason
         ensures { λ r. ⌜ cause-of r ≡ cause ⌝ }
     {
         match cause {
+            Cause::PlaceOutside => Reason::LotPlace,
             Cause::FieldOutside => field(terms),
             cause => Reason::Plain(cause),
         }

@@ -7,5 +7,5 @@ use Rattle.script.proofs.read.add.Needs as need
 pub returns : need.returns
 returns c =
     let place = c .in-Continue-place .ensures tt in
-    let lot = described (c .in-Continue-terms .ensures tt) (c .in-Continue-end .ensures tt) in
+    let lot = described {rest = c .terms .last .words .rest .now} (c .in-Continue-terms .ensures tt) (c .in-Continue-end .ensures tt) in
     record { words = place .0 ∷ lot .0; worded = more (place .1) (lot .1); says = add (place .2) (lot .2) }
