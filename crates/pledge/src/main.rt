@@ -10,11 +10,11 @@ use std::io;
 use std::io::BufRead;
 use std::io::BufReader;
 
-// How a text ended: all its lines were played, or one of them is no line of the format.
+// How a run ended: every line was played, or it stopped early and standard error says why.
 #[derive(Clone, Copy, PartialEq, Eq)]
 enum Ending {
     Played,
-    BadLine,
+    Stopped,
 }
 
 // Plays one line and prints its outcome, or says what was expected of it.
@@ -26,14 +26,14 @@ fn play_line(
 ) -> io::Result<Ending> {
     let Ok(text) = std::str::from_utf8(line) else {
         eprintln!(rt, "line {number}: expected text in UTF-8")?;
-        return Ok(Ending::BadLine);
+        return Ok(Ending::Stopped);
     };
     match session.play(rt.alloc(), text) {
         Ok(Some(outcome)) => println!(rt, "{outcome}")?,
         Ok(None) => {}
         Err(Unread::Bad(bad)) => {
             eprintln!(rt, "line {number}: {bad}")?;
-            return Ok(Ending::BadLine);
+            return Ok(Ending::Stopped);
         }
         Err(Unread::Memory) => return Err(io::Error::from(io::ErrorKind::OutOfMemory)),
     }
@@ -47,26 +47,40 @@ fn play_all<R: BufRead + Drop>(rt: &LibcRuntime, text: R) -> io::Result<Ending> 
     for line in text.split(rt.alloc(), b'\n') {
         number = number.saturating_add(1);
         let ending = play_line(rt, &mut session, number, line?.as_slice())?;
-        if ending == Ending::BadLine {
+        if ending == Ending::Stopped {
             return Ok(ending);
         }
     }
     Ok(Ending::Played)
 }
 
+fn play_file(rt: &LibcRuntime, path: &str) -> io::Result<Ending> {
+    match File::open(rt, path) {
+        Ok(file) => play_all(rt, BufReader::new(file)),
+        Err(e) => {
+            eprintln!(rt, "pledge: {path}: {e}")?;
+            Ok(Ending::Stopped)
+        }
+    }
+}
+
 fn run(rt: &LibcRuntime) -> io::Result<Ending> {
     let mut args = env::args(rt)?;
     let _program = args.next();
-    match args.next() {
-        Some(path) => play_all(rt, BufReader::new(File::open(rt, path.as_str())?)),
-        None => play_all(rt, BufReader::new(rt.stdin())),
+    match (args.next(), args.next()) {
+        (None, _) => play_all(rt, BufReader::new(rt.stdin())),
+        (Some(path), None) => play_file(rt, path.as_str()),
+        _ => {
+            eprintln!(rt, "usage: pledge [FILE]")?;
+            Ok(Ending::Stopped)
+        }
     }
 }
 
 fn main(rt: LibcRuntime) -> io::Result<()> {
     match run(&rt) {
         Ok(Ending::Played) => Ok(()),
-        Ok(Ending::BadLine) => Err(io::Error::from(io::ErrorKind::InvalidData)),
+        Ok(Ending::Stopped) => Err(io::Error::from(io::ErrorKind::InvalidData)),
         Err(e) => {
             eprintln!(rt, "pledge: {e}")?;
             Err(e)
