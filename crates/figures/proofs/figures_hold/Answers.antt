@@ -1,0 +1,5 @@
+use Rattle.figures.proofs.Curved.{curve-figures}
+use Rattle.figures.proofs.figures_hold.Needs as need
+
+pub returns : need.returns
+returns c = record { curves = curve-figures }

@@ -1,0 +1,4 @@
+mod Reading
+mod Cutting
+mod Lines
+mod Played
