@@ -1,17 +1,17 @@
 -- The relation over calls, once it is known whether a cause is against the call.
 
-use mathlib.Core.Path.{_≡_, refl, sym, subst}
-use mathlib.Core.Bool.{true}
+use mathlib.Core.Path.{_≡_, refl, sym, ap, subst}
+use mathlib.Core.Bool.{true, not}
 use mathlib.Core.Logic.{inr}
 use Prim.Native.Nat.{ℕ}
-use borrow.Author.Tests.{eq-eqb}
+use Rattle.cause.specs.declared.Cause.the-variants.{SlipStale}
 use Rattle.table.specs.Outcome.{Short}
 use Rattle.cover.specs.Answer.{noted}
 use Rattle.cover.specs.declared.record.Record.{Record}
 use Rattle.std.specs.declared.option.Option.the-variants.{None, Some}
 use Rattle.binder.specs.Meaning.{Meaning}
 use Rattle.calls.specs.State.{State}
-use Rattle.calls.specs.Call.{Call, Outcome, Numbers, cause}
+use Rattle.calls.specs.Call.{Call, Outcome, Numbers, own, first, cause}
 use Rattle.calls.specs.Call.Call.{allocate}
 use Rattle.calls.specs.Call.Outcome.{short}
 use Rattle.calls.specs.Situation.{situation}
@@ -21,8 +21,8 @@ pub granted : (m : Meaning) (c : Call) (s : State) (o : Outcome) (t : State) →
 granted m c s o t e g = subst (λ v. Decided v m c s o t) (sym e) g
 
 -- the slip is that of the open run
-pub is-own : (m : Meaning) (s : State) (n : Numbers) (note : Record) → s .in-run ≡ true → n .book ≡ s .number → n .run ≡ s .run → cause m s (allocate n note) ≡ None
-is-own m s n note a b c = rw (a, eq-eqb (n .book) (s .number) b, eq-eqb (n .run) (s .run) c) refl
+pub is-own : (m : Meaning) (s : State) (n : Numbers) (note : Record) → own s n ≡ true → cause m s (allocate n note) ≡ None
+is-own m s n note h = ap (λ v. first (not v) SlipStale None) h
 
 -- and the allocation is short
 pub denied : (m : Meaning) (s t : State) (n : Numbers) (note new : Record) (x : ℕ) → cause m s (allocate n note) ≡ None → t ≡ s → Short (situation m s) x (noted new)

@@ -20,8 +20,8 @@ pub fn is_pledged(pledges: &[u64; 1024], lot: usize) -> bool
     requires { ⌜ lot < 64 ⌝ }
     ensures { λ r. ⌜ r ≡ ltb 0 (Sum 16 (λ e. table (now (pledges .entry)) lot e)) ⌝ }
 {
-    for e in 0..16usize {
-        if pledges[lot * 16 + e] > 0 {
+    for x in 0..16usize {
+        if pledges[lot * 16 + x] > 0 {
             return true;
         }
     }
@@ -33,8 +33,8 @@ pub fn zero_column(pledges: &mut [u64; 1024], exposure: usize)
     requires { ⌜ exposure < 16 ⌝ }
     ensures { λ _. ⌜ now (pledges .exit) ≡ zeroed (now (pledges .entry)) exposure 64 ⌝ }
 {
-    for l in 0..64usize {
-        pledges[l * 16 + exposure] = 0;
+    for lot in 0..64usize {
+        pledges[lot * 16 + exposure] = 0;
     }
 }
 
@@ -43,8 +43,8 @@ pub fn held_lots(lots: &[Option<Lot>; 64]) -> usize
     ensures bound { λ r. ⌜ r ≤ 64 ⌝ }
 {
     let mut n = 0;
-    for l in 0..64usize {
-        if lots[l].is_some() {
+    for place in 0..64usize {
+        if lots[place].is_some() {
             n += 1;
         }
     }

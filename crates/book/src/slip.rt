@@ -15,11 +15,4 @@ impl Slip {
     {
         self.run
     }
-
-    // The run has ended.
-    pub(crate) fn spend(self)
-        ensures { λ _. ⌜ Unit {0} ⌝ }
-    {
-        let Slip { book: _, run: _ } = self;
-    }
 }

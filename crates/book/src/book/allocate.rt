@@ -55,7 +55,8 @@ impl Book {
     ) -> Result<usize, AllocateFault>
         ensures { λ r. ⌜ Step (B·Binder .meaning (now (binder .entry))) (allocate-call (numbers (now (slip .entry))) (now («record» .entry))) (view (now (self .entry))) (allocating (numbers (now (slip .entry))) (now («record» .exit)) r) (view (now (self .exit))) ⌝ }
     {
-        if !self.in_run || slip.book != self.number || slip.run != self.run {
+        let own = self.owns(slip);
+        if !own {
             return Err(AllocateFault::Slip);
         }
         match self.cover(binder, record) {

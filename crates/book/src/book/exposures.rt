@@ -6,7 +6,10 @@ ghost use lib.ListN.{length};
 ghost use Rattle.std.specs.Results.{Cases};
 ghost use Rattle.binder.specs.Meaning.{Meaning};
 ghost use Rattle.calls.specs.Call.Call.{open-exposure as open-call, close as close-call};
-ghost use Rattle.calls.specs.Step.{Step};
+ghost use Rattle.std.specs.declared.option.Option.the-variants.{None};
+ghost use Rattle.calls.specs.Call.{held-lots};
+ghost use Rattle.calls.specs.Instructions.{closings, written};
+ghost use Rattle.calls.specs.Step.{Step, with-exposure, with-tables, zeroed};
 ghost use Rattle.book.specs.View.{view};
 ghost use Rattle.book.specs.Answers.{opening, closing};
 use crate::book::Book;
@@ -58,6 +61,22 @@ impl Book {
         Ok(())
     }
 
+    // Empties an exposure's place and its pledges, with room in the list for an instruction a lot.
+    fn take_exposure(&mut self, place: u64, list: &mut [Instruction]) -> usize
+        requires place { ⌜ place ≤ 15 ⌝ }
+        requires room { ⌜ held-lots (view (now self)) ≤ length (now list) ⌝ }
+        ensures count { λ r. ⌜ r ≡ length (closings (now (self .entry) .standing) place 64) ⌝ }
+        ensures fits { λ r. ⌜ r ≤ length (now (list .entry)) ⌝ }
+        ensures list { λ _. ⌜ now (list .exit) ≡ written (closings (now (self .entry) .standing) place 64) (now (list .entry)) ⌝ }
+        ensures after { λ _. ⌜ view (now (self .exit)) ≡ with-tables (with-exposure (view (now (self .entry))) place None) (zeroed (now (self .entry) .standing) place 64) (zeroed (now (self .entry) .working) place 64) ⌝ }
+    {
+        let count = write_closings(&self.standing, place as usize, list);
+        zero_column(&mut self.standing, place as usize);
+        zero_column(&mut self.working, place as usize);
+        self.exposures[place as usize] = None;
+        count
+    }
+
     // Empties an exposure's place. Writes, by lot, one instruction for each standing pledge to it, and
     // returns their number; the pledges are 0 in both tables then.
     pub fn close(&mut self, place: u64, list: &mut [Instruction]) -> Result<usize, Cause>
@@ -77,10 +96,6 @@ impl Book {
         if list.len() < held_lots(&self.lots) {
             return Err(Cause::ListShort);
         }
-        let count = write_closings(&self.standing, place as usize, list);
-        zero_column(&mut self.standing, place as usize);
-        zero_column(&mut self.working, place as usize);
-        self.exposures[place as usize] = None;
-        Ok(count)
+        Ok(self.take_exposure(place, list))
     }
 }

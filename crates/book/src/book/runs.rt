@@ -4,6 +4,7 @@ ghost use lib.ListN.{length};
 ghost use Rattle.std.specs.Results.{Cases};
 ghost use Rattle.binder.specs.Meaning.{Meaning};
 ghost use Rattle.calls.specs.State.{opening as new-state};
+ghost use Rattle.calls.specs.Call.{own};
 ghost use Rattle.calls.specs.Call.Call.{begin as begin-call, settle as settle-call, abandon as abandon-call};
 ghost use Rattle.calls.specs.Step.{Step};
 ghost use Rattle.book.specs.View.{view, numbers};
@@ -32,6 +33,13 @@ impl Book {
         }
     }
 
+    // Whether a slip is that of the open run.
+    pub(super) fn owns(&self, slip: &Slip) -> bool
+        ensures { λ r. ⌜ r ≡ own (view (now (self .entry))) (numbers (now (slip .entry))) ⌝ }
+    {
+        self.in_run && slip.book == self.number && slip.run == self.run
+    }
+
     // Opens the next run and hands out its slip.
     pub fn begin(&mut self) -> Result<Slip, Cause>
         ensures { λ r. ⌜ ((m : Meaning) → Step m begin-call (view (now (self .entry))) (beginning r) (view (now (self .exit)))) ⌝ }
@@ -56,13 +64,14 @@ impl Book {
         ensures room { λ r. ⌜ Cases r (λ n. n ≤ length (now (list .entry))) (λ _. Unit {0}) ⌝ }
         ensures step { λ r. ⌜ ((m : Meaning) → Step m (settle-call (numbers slip) (now (list .entry))) (view (now (self .entry))) (settling (now (list .exit)) r) (view (now (self .exit)))) ⌝ }
     {
-        if !self.in_run || slip.book != self.number || slip.run != self.run {
+        let own = self.owns(&slip);
+        if !own {
             return Err((Cause::SlipStale, slip));
         }
         if list.len() < held_lots(&self.lots) * open_exposures(&self.exposures) {
             return Err((Cause::ListShort, slip));
         }
-        slip.spend();
+        let Slip { book: _, run: _ } = slip;
         let count = write_changes(&self.standing, &self.working, list);
         let working = self.working;
         self.standing = working;
@@ -74,10 +83,11 @@ impl Book {
     pub fn abandon(&mut self, slip: Slip) -> Result<(), (Cause, Slip)>
         ensures { λ r. ⌜ ((m : Meaning) → Step m (abandon-call (numbers slip)) (view (now (self .entry))) (abandoning r) (view (now (self .exit)))) ⌝ }
     {
-        if !self.in_run || slip.book != self.number || slip.run != self.run {
+        let own = self.owns(&slip);
+        if !own {
             return Err((Cause::SlipStale, slip));
         }
-        slip.spend();
+        let Slip { book: _, run: _ } = slip;
         let standing = self.standing;
         self.working = standing;
         self.in_run = false;

@@ -3,5 +3,5 @@ use Rattle.network.specs.Sums.{Sum}
 use Rattle.calls.specs.State.{table}
 use Rattle.book.proofs.pledges.is_pledged.Given as given
 
-abbrev pub Inv-loop-e : given.InvT-loop-e
-Inv-loop-e v = Sum (v .e) (λ e. table (v .pledges) (v .lot) e) ≡ 0
+abbrev pub Inv-loop-x : given.InvT-loop-x
+Inv-loop-x v = Sum (v .x) (λ e. table (v .pledges) (v .lot) e) ≡ 0

@@ -4,8 +4,8 @@ use lib.ListN.{set}
 use Rattle.book.proofs.Walks.{zeroed-start, zeroed-more}
 use Rattle.book.proofs.pledges.zero_column.Needs as need
 
-pub loop-l-holds : need.loop-l-holds
-loop-l-holds c = sym (zeroed-start (c .args .pledges .now) (c .args .exposure))
+pub loop-lot-holds : need.loop-lot-holds
+loop-lot-holds c = sym (zeroed-start (c .args .pledges .now) (c .args .exposure))
 
-pub loop-l-again : need.loop-l-again
-loop-l-again c = ap (λ t. set t (c .loop-l .l * 16 + c .args .exposure) 0) (c .loop-l .inv) ∙ sym (zeroed-more (c .args .pledges .now) (c .args .exposure) (c .loop-l .l))
+pub loop-lot-again : need.loop-lot-again
+loop-lot-again c = ap (λ t. set t (c .loop-lot .lot * 16 + c .args .exposure) 0) (c .loop-lot .inv) ∙ sym (zeroed-more (c .args .pledges .now) (c .args .exposure) (c .loop-lot .lot))

@@ -1,3 +1,4 @@
+use mathlib.Core.Path.{sym, _∙_}
 use Rattle.book.specs.View.{view, numbers}
 use Rattle.book.proofs.Steps.{is-own, denied}
 use Rattle.book.proofs.book.Book.allocate.Needs as need
@@ -8,4 +9,4 @@ returns-in-Err g c =
     let s = view (c .args .self .now) in
     let n = numbers (c .args .slip .now) in
     let e = c .in-Err .ensures tt in
-    denied m s _ n (c .args .record .now) _ (c .in-Err .shortage) (is-own m s n (c .args .record .now) (c .if-not-self .left) (c .if-slip-self .left) (c .if-slip-self-2 .left)) (e .0) (e .1)
+    denied m s _ n (c .args .record .now) _ (c .in-Err .shortage) (is-own m s n (c .args .record .now) (sym (c .owns-own .ensures) ∙ c .if-not-own .left)) (e .0) (e .1)

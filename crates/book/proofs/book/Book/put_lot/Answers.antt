@@ -12,14 +12,14 @@ use Rattle.calls.specs.State.{held-at}
 use Rattle.book.specs.View.{view}
 use Rattle.book.proofs.Places.{low-set, lot-filled}
 use Rattle.book.proofs.Pricing.{worth-low, priced-step, unpriced-step}
-use Rattle.book.proofs.book.Book.add.Needs as need
+use Rattle.book.proofs.book.Book.put_lot.Needs as need
 
 pub returns-in-Break-lot : need.returns-in-Break-lot
 returns-in-Break-lot c =
     let q = err-from-errBy (c .from-residual .result) (c .from-residual .ensures .1) in
-    let place : ltb 63 (c .args .place) ≡ false = grind (arith, tells) in
-    rw (q .1, q .2) (λ m. unpriced-step m (view (c .args .self .now)) (c .args .place) (c .args .terms .now) (c .args .card .now) place (c .if-self .left)
-    (sym (c .is-some .ensures) ∙ c .if-is-some .left) (c .in-Break-lot .ensures tt))
+    let place : ltb 63 (c .args .place) ≡ false = (let l = c .pre .place in grind (arith, tells)) in
+    rw (q .1, q .2) (λ m. unpriced-step m (view (c .args .self .now)) (c .args .place) (c .args .terms .now) (c .args .card .now) place (c .pre .idle)
+    (c .pre .empty) (c .in-Break-lot .ensures tt))
 
 pub ghost-self : need.ghost-self
 ghost-self c =
@@ -50,6 +50,6 @@ ghost-self c =
 
 pub returns : need.returns
 returns c =
-    let place : ltb 63 (c .args .place) ≡ false = grind (arith, tells) in
-    λ m. priced-step m (view (c .args .self .now)) (c .args .place) (c .args .terms .now) (c .args .card .now) place (c .if-self .left)
-    (sym (c .is-some .ensures) ∙ c .if-is-some .left) (c .in-Continue-lot .lot) (c .in-Continue-lot .ensures tt)
+    let place : ltb 63 (c .args .place) ≡ false = (let l = c .pre .place in grind (arith, tells)) in
+    λ m. priced-step m (view (c .args .self .now)) (c .args .place) (c .args .terms .now) (c .args .card .now) place (c .pre .idle)
+    (c .pre .empty) (c .in-Continue-lot .lot) (c .in-Continue-lot .ensures tt)

@@ -8,14 +8,14 @@ use Rattle.network.specs.Sums.{Sum}
 use Rattle.calls.specs.State.{table}
 use Rattle.calls.specs.Situation.{worth-of}
 use Rattle.book.proofs.Places.{low-set, lot-emptied}
-use Rattle.book.proofs.book.Book.withdraw.Needs as need
+use Rattle.book.proofs.book.Book.take_lot.Needs as need
 
 pub ghost-self : need.ghost-self
 ghost-self c =
     let b = c .args .self .now in
     let p = c .args .place in
-    let free : ltb 0 (Sum 16 (λ e. table (b .standing) p e)) ≡ false = sym (c .is-pledged .ensures) ∙ c .if-is-pledged .left in
-    let free-working : ltb 0 (Sum 16 (λ e. table (b .working) p e)) ≡ false = ap (λ t. ltb 0 (Sum 16 (λ e. table t p e))) (b .idle (c .if-self .left)) ∙ free in (
+    let free : ltb 0 (Sum 16 (λ e. table (b .standing) p e)) ≡ false = c .pre .free in
+    let free-working : ltb 0 (Sum 16 (λ e. table (b .working) p e)) ≡ false = ap (λ t. ltb 0 (Sum 16 (λ e. table t p e))) (b .idle (c .pre .idle)) ∙ free in (
       (length-set (b .lots) p None ∙ b .places .0, b .places .1),
       (
         b .tables,

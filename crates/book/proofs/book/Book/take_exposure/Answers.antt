@@ -7,14 +7,13 @@ use Rattle.calls.specs.Situation.{amount-of}
 use Rattle.calls.specs.Step.{zeroed}
 use Rattle.book.proofs.Places.{low-set, zeroed-length, zeroed-low, exposure-emptied}
 use Rattle.book.proofs.Few.{few-closings}
-use Rattle.book.proofs.book.Book.close.Needs as need
+use Rattle.book.proofs.book.Book.take_exposure.Needs as need
 
 pub write-closings-count-requires : need.write-closings-count-requires
 write-closings-count-requires c κs =
     let b = c .args .self .now in
     let few = few-closings (b .lots) (b .exposures) (b .standing) (b .grounded) (c .args .place) (omega arith) in
-    let room = rw (c .held-lots .ensures .count) at (c .if-list-held-lots .left) in
-    record { low = (b .low, omega arith); room = omega arith }
+    record { low = (b .low, omega arith); room = omega (arith, few, c .pre .room) }
 
 pub ghost-self : need.ghost-self
 ghost-self c =
