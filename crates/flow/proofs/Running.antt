@@ -1,15 +1,9 @@
 -- Between rounds.
 
 use mathlib.Core.Path.{_≡_, refl, sym, ap, subst, _∙_}
-use mathlib.Core.Bool.{Bool, true, false, cond, _&&_}
-use mathlib.Core.Logic.{_⊎_, inl, inr}
 use Prim.Native.Nat.{ℕ, suc, _+_, _-_, _<_, _≤_}
 use native.Mathlib.Omega.{arith}
 use native.Mathlib.Numerals.{add-one}
-use lib.Dec.{eqb, leb}
-use Rattle.std.proofs.shelf.Tests.{cases-bool, and-parts, leb-true, eqb-true, cond-true, cond-false}
-use Rattle.std.specs.declared.option.Option.{Option}
-use Rattle.std.specs.declared.option.Option.the-variants.{Some, None}
 use Rattle.network.specs.Sums.{Agree}
 use Rattle.network.specs.Flow.{Net, Sound, Flow}
 use Rattle.network.specs.Round.{Round, Rounds}
@@ -19,9 +13,7 @@ use Rattle.network.proofs.Rounds.{rounds-few}
 use Rattle.network.proofs.Same.{same-refl, same-rounds}
 use Rattle.flow.specs.Search.{Searched}
 use Rattle.flow.specs.Blocking.{Marks, Filled}
-use Rattle.flow.specs.declared.rounds.Refusal.{Refusal}
-use Rattle.flow.specs.declared.rounds.Refusal.the-variants.{FlowLength, MemoryShort}
-use Rattle.flow.specs.Solved.{Solved, refusal}
+use Rattle.flow.specs.Solved.{Solved}
 use Rattle.flow.proofs.Nearer.{searched-round}
 
 -- k rounds led from the flow f₀ to f, whose layers are those of mark
@@ -56,27 +48,6 @@ module _ {N : Net} {f₀ f mark : ℕ → ℕ} {k : ℕ} (s : Sound N) (p : Runn
       let l = p .searched .out z in
       let m = max-min N f mark s (p .flows) l z in
       record { rounds = p .rounds; few = running-few; maximum = m .0; reached = l; minimum = m .1; equal = m .2 }
-
--- where a call is not refused, all fits
-pub not-refused : (N : Net) (flow mark queue cursor path : ℕ) → refusal N flow mark queue cursor path ≡ None
-    → (flow ≡ N .arcs) × (N .nodes ≤ mark) × (N .nodes ≤ queue) × (N .nodes ≤ cursor) × (N .nodes ≤ path)
-not-refused N flow mark queue cursor path e =
-    elim (cases-bool (eqb flow (N .arcs))) [
-      | inl y ↦
-          let test : Bool = leb (N .nodes) mark && (leb (N .nodes) queue && (leb (N .nodes) cursor && leb (N .nodes) path)) in
-          elim (cases-bool (leb (N .nodes) mark && (leb (N .nodes) queue && (leb (N .nodes) cursor && leb (N .nodes) path)))) [
-            | inl z ↦
-                let a = and-parts (leb (N .nodes) mark) _ z in
-                let b = and-parts (leb (N .nodes) queue) _ (a .1) in
-                let c = and-parts (leb (N .nodes) cursor) _ (b .1) in
-                (eqb-true flow (N .arcs) y, leb-true _ _ (a .0), leb-true _ _ (b .0), leb-true _ _ (c .0), leb-true _ _ (c .1))
-            | inr z ↦ absurd (some-none MemoryShort (sym (cond-true (eqb flow (N .arcs)) _ _ y ∙ cond-false _ None (Some MemoryShort) z) ∙ e))
-          ]
-      | inr y ↦ absurd (some-none FlowLength (sym (cond-false (eqb flow (N .arcs)) _ _ y) ∙ e))
-    ]
-  where
-    some-none : (x : Refusal) → Some x ≡ None → ⊥
-    some-none x p = let z : _≡_ {A = ℕ} 0 1 = cc in omega arith
 
 -- a chain counts by what its first flow sends along the arcs
 pub solved-from : {N : Net} {f g f′ mark : ℕ → ℕ} {r : ℕ} → Agree (N .arcs) g f → Solved N g f′ mark r → Solved N f f′ mark r

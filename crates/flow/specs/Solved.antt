@@ -4,7 +4,7 @@ use Prim.{Unit}
 use mathlib.Core.Path.{_≡_}
 use mathlib.Core.Bool.{Bool, cond, _&&_}
 use mathlib.Core.List.{List}
-use Prim.Native.Nat.{ℕ, _<_}
+use Prim.Native.Nat.{ℕ, _<_, _≤_}
 use lib.Dec.{eqb, leb, ltb}
 use lib.ListN.{length}
 use Rattle.network.specs.Flow.{Net, value, capacity, Maximum, Minimum}
@@ -32,6 +32,14 @@ pub record Solved (N : Net) (f f′ mark : ℕ → ℕ) (r : ℕ) : Type 0 where
   pub minimum : Minimum N (marked mark)
   pub equal : value N f′ ≡ capacity N (marked mark)
 
+-- the lengths of a flow and of the memory for a network
+pub record Sizes (N : Net) (flow mark queue cursor path : ℕ) : Type 0 where
+  pub flow-fits : flow ≡ N .arcs
+  pub mark-fits : N .nodes ≤ mark
+  pub queue-fits : N .nodes ≤ queue
+  pub cursor-fits : N .nodes ≤ cursor
+  pub path-fits : N .nodes ≤ path
+
 -- why the solver refuses to run, the first that applies: the flow has not one place for each arc; some of the memory has fewer places than
 -- there are nodes
 abbrev pub refusal : Net → ℕ → ℕ → ℕ → ℕ → ℕ → Option Refusal
@@ -39,7 +47,7 @@ refusal N flow mark queue cursor path =
     cond (eqb flow (N .arcs)) (cond (leb (N .nodes) mark && (leb (N .nodes) queue && (leb (N .nodes) cursor && leb (N .nodes) path))) None (Some MemoryShort)) (Some FlowLength)
 
 abbrev pub Checked : Net → ℕ → ℕ → ℕ → ℕ → ℕ → Result Unit Refusal → Type 0
-Checked N flow mark queue cursor path (Ok _) = refusal N flow mark queue cursor path ≡ None
+Checked N flow mark queue cursor path (Ok _) = (refusal N flow mark queue cursor path ≡ None) × Sizes N flow mark queue cursor path
 Checked N flow mark queue cursor path (Err e) = refusal N flow mark queue cursor path ≡ Some e
 
 -- what comes of a call that begins with the flow f: it runs, and solves the network; or it is refused, and nothing changes

@@ -4,12 +4,20 @@ ghost use mathlib.Core.Path.{_≡_};
 ghost use Prim.Native.Nat.{ℕ, _+_, _*_, _<_, _≤_};
 ghost use lib.ListN.{length};
 ghost use Rattle.network.specs.Flow.{Flow};
-ghost use Rattle.network.specs.Residual.{room};
+ghost use Rattle.network.specs.Residual.{to, room};
 ghost use Rattle.network.specs.Augment.{Trail, Pushed, Sent, stop};
 ghost use Rattle.flow.specs.Lists.{at};
 ghost use Rattle.flow.specs.Blocking.{Marks, First, Walking, Descended, Least, Filled};
 use crate::layers::has_room;
 use crate::network::Network;
+
+// The mark of the node that the `j`-th arc of `v` enters.
+fn mark_ahead<G: Network>(network: &G, mark: &[u32], v: usize, j: usize) -> u32
+    requires { ⌜ (v < net (now network) .nodes) × (j < deg (now network) v) × (net (now network) .nodes ≤ length (now mark)) ⌝ }
+    ensures { λ r. ⌜ r ≡ at (now (mark .entry)) (to (net (now (network .entry))) (inc (now (network .entry)) v j)) ⌝ }
+{
+    mark[network.target(v, j)]
+}
 
 // The place of the first arc of `v`, from the place `i` on, that has room and goes a layer on, or the number of its arcs.
 fn first_open<G: Network>(network: &G, flow: &[u64], mark: &[u32], v: usize, i: usize) -> usize
@@ -20,8 +28,9 @@ fn first_open<G: Network>(network: &G, flow: &[u64], mark: &[u32], v: usize, i: 
     let layer = mark[v] + 1;
     let end = network.degree(v);
     for j in i..end {
-        let w = network.target(v, j);
-        if mark[w] == layer && has_room(network, flow, network.leaving(v, j)) {
+        if mark_ahead(network, mark, v, j) == layer
+            && has_room(network, flow, network.leaving(v, j))
+        {
             return j;
         }
     }

@@ -9,6 +9,19 @@ ghost use Rattle.flow.specs.Lists.{at};
 ghost use Rattle.flow.specs.Search.{Bfs, Searched};
 use crate::network::Network;
 
+// Whether an arc that carries `x` can carry more, and whether it can carry less.
+fn unfilled(x: u64, capacity: u64) -> bool
+    ensures { λ r. ⌜ r ≡ ltb x capacity ⌝ }
+{
+    x < capacity
+}
+
+fn used(x: u64) -> bool
+    ensures { λ r. ⌜ r ≡ ltb 0 x ⌝ }
+{
+    x > 0
+}
+
 // Whether more can be sent along the residual arc `a`.
 pub(crate) fn has_room<G: Network>(network: &G, flow: &[u64], a: usize) -> bool
     requires { ⌜ length (now flow) ≡ net (now network) .arcs ⌝ ∗ ⌜ a < 2 * net (now network) .arcs ⌝ }
@@ -16,9 +29,9 @@ pub(crate) fn has_room<G: Network>(network: &G, flow: &[u64], a: usize) -> bool
 {
     let k = a / 2;
     if a % 2 == 0 {
-        flow[k] < network.capacity(k)
+        unfilled(flow[k], network.capacity(k))
     } else {
-        0 < flow[k]
+        used(flow[k])
     }
 }
 
