@@ -3,4 +3,3 @@
 
 pub mod order;
 pub mod session;
-mod turns;
