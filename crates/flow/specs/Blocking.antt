@@ -1,4 +1,4 @@
--- What a depth-first search with a cursor at each node knows.
+-- To believe: nothing. What a depth-first search with a cursor at each node knows, in the contracts of private functions.
 
 use mathlib.Core.Path.{_≡_}
 use Prim.Native.Nat.{ℕ, _+_, _*_, _<_, _≤_}

@@ -1,4 +1,4 @@
--- What a breadth-first search knows, midway and at its end.
+-- To believe: nothing. What a breadth-first search knows, midway and at its end, in the contracts of private functions.
 
 use mathlib.Core.Path.{_≡_}
 use Prim.Native.Nat.{ℕ, _+_, _-_, _*_, _<_, _≤_}

@@ -1,4 +1,5 @@
--- Sending more along one residual arc, and along the arcs of a path one after the other: what a flow and its rooms are then.
+-- To believe: nothing. Sending more along one residual arc, and along the arcs of a path one after the other: what a flow and its rooms are
+-- then. No law speaks of this; proofs and private contracts do.
 
 use mathlib.Core.Path.{_≡_}
 use Prim.Native.Nat.{ℕ, zero, suc, _+_, _*_, _/_, _<_, _≤_}
