@@ -11,10 +11,10 @@ ghost use Rattle.script.specs.Numerals.{Decimal, HexByte};
 fn has_plus(word: &str) -> bool
     ensures { λ r. ⌜ r ≡ eqb (getD (now (word .entry)) 0 0) 43 ⌝ }
 {
-    match word.as_bytes() {
-        [first, ..] => *first == b'+',
-        [] => false,
+    if word.is_empty() {
+        return false;
     }
+    word.as_bytes()[0] == b'+'
 }
 
 // Whether a word has no more than two digits.

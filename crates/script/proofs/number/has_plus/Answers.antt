@@ -1,8 +1,6 @@
-use mathlib.Core.Path.{ap}
-use native.Mathlib.Omega.{arith}
-use lib.ListN.{length}
+use borrow.Author.Tests.{true-eqb}
 use Rattle.script.proofs.Reading.{empty-start}
 use Rattle.script.proofs.number.has_plus.Needs as need
 
-pub returns-in-empty : need.returns-in-empty
-returns-in-empty c = empty-start (c .args .word .now) (omega (arith, ap length (c .as-bytes .ensures .value)))
+pub returns-then-is-empty : need.returns-then-is-empty
+returns-then-is-empty c = empty-start (c .args .word .now) (true-eqb _ 0 (c .if-is-empty .ensures tt))
