@@ -1,9 +1,9 @@
 // `pledge FILE` plays a day of one pledge book from a text; with no argument, from standard input.
 
+use report::outcome::OutcomeDisplay;
 use script::bad::BadLineDisplay;
 use script::bad::Unread;
-use script::outcome::OutcomeDisplay;
-use script::session::Session;
+use session::state::Session;
 use std::env;
 use std::fs::File;
 use std::io;

@@ -1,4 +1,3 @@
 mod Reading
 mod Cutting
 mod Lines
-mod Played

@@ -1,14 +1,16 @@
 -- What std reads as a number is a numeral of ours, once a leading + is ruled out.
 
-use mathlib.Core.Path.{_≡_, sym, subst, _∙_}
+use mathlib.Core.Path.{_≡_, refl, sym, subst, _∙_}
 use mathlib.Core.List.{List, [], _∷_}
 use mathlib.Core.Bool.{Bool, false}
 use Prim.Native.Nat.{ℕ, _^_, _<_, _≤_}
 use native.Mathlib.Omega.{arith}
+use lib.Dec.{eqb}
 use lib.ListN.{length, getD}
 use Rattle.std.specs.Numbers.{Converted}
 use Rattle.std.specs.Options.{Cases}
 use Rattle.std.specs.Results.{okPart}
+use Rattle.std.specs.Text.{digitValue}
 use Rattle.std.specs.Reads.{Numeral, Digits, value, afterPlus, ReadsUnsigned}
 use Rattle.std.specs.declared.option.Option.{Option}
 use Rattle.std.specs.declared.option.Option.the-variants.{Some, None}
@@ -16,6 +18,15 @@ use Rattle.std.specs.declared.result.Result.{Result}
 use Rattle.std.specs.declared.result.Result.the-variants.{Ok, Err}
 use Rattle.std.proofs.shelf.Numerals.{afterPlus-none}
 use Rattle.script.specs.Numerals.{Decimal, HexByte}
+
+pub empty-start : (bs : List ℕ) → length bs ≡ 0 → false ≡ eqb (getD bs 0 0) 43
+empty-start [] e = refl
+empty-start (b ∷ bs) e = absurd (omega arith)
+
+-- a + is no digit
+pub no-plus : (radix : ℕ) (bs : List ℕ) → radix ≤ 36 → getD bs 0 0 ≡ 43 → Numeral radix bs → ⊥
+no-plus radix [] few e d = omega (arith, d .0)
+no-plus radix (c ∷ cs) few e d = let low : digitValue 43 < radix = subst (λ c. digitValue c < radix) e (d .1 .0) in omega arith
 
 -- what is read of a text without a sign
 unsigned : {E : Type 0} (k radix : ℕ) (bs : List ℕ) (r : Result ℕ E) → ReadsUnsigned k radix bs r → (getD bs 0 0 ≡ 43 → ⊥)

@@ -1,9 +1,9 @@
 // Lines that are no lines of the format: what is said of each, and that nothing of it happens.
 
+use report::outcome::OutcomeDisplay;
 use script::bad::BadLineDisplay;
 use script::bad::Unread;
-use script::outcome::OutcomeDisplay;
-use script::session::Session;
+use session::state::Session;
 use std::io;
 
 // Plays a text up to its first bad line, and prints what is said of that, or of the last line.

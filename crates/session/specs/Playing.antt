@@ -17,18 +17,18 @@ use Rattle.std.specs.declared.alloc.Global.{Global}
 use Rattle.std.specs.declared.option.Option.{Option}
 use Rattle.std.specs.declared.option.Option.the-variants.{Some, None}
 use Rattle.std.specs.declared.vec.Vec.{Vec}
-use Rattle.script.specs.Adding.{Added, Unadded}
-use Rattle.script.specs.Reasons.{cause-of}
+use Rattle.session.specs.Adding.{Added, Unadded}
+use Rattle.report.specs.Reasons.{cause-of}
 use Rattle.script.specs.declared.line.Line.{Line}
 use Rattle.script.specs.declared.line.Line.the-variants.{Book, Page, Add}
-use Rattle.script.specs.declared.outcome.Answer.{Answer}
-use Rattle.script.specs.declared.outcome.Answer.the-variants.{Opened, Points as Answered, Value, Refused}
-use Rattle.script.specs.declared.outcome.At.{At}
-use Rattle.script.specs.declared.outcome.At.the-variants.{Nothing, Point}
-use Rattle.script.specs.declared.outcome.Outcome.{Outcome}
-use Rattle.script.specs.declared.outcome.Refusal.{Refusal}
-use Rattle.script.specs.declared.outcome.Subject.the-variants.{Book as OfBook, Page as OfPage, Add as OfAdd}
-use Rattle.script.specs.declared.session.Session.{Session}
+use Rattle.report.specs.declared.outcome.Answer.{Answer}
+use Rattle.report.specs.declared.outcome.Answer.the-variants.{Opened, Points as Answered, Value, Refused}
+use Rattle.report.specs.declared.outcome.At.{At}
+use Rattle.report.specs.declared.outcome.At.the-variants.{Nothing, Point}
+use Rattle.report.specs.declared.outcome.Outcome.{Outcome}
+use Rattle.report.specs.declared.outcome.Refusal.{Refusal}
+use Rattle.report.specs.declared.outcome.Subject.the-variants.{Book as OfBook, Page as OfPage, Add as OfAdd}
+use Rattle.session.specs.declared.state.Session.{Session}
 
 -- the point that a refused page names
 abbrev pub at-of : CardFault → At

@@ -11,19 +11,19 @@ use Rattle.curve.specs.declared.lot.Terms.{Terms}
 use Rattle.std.specs.Of.Vec.{vec-items}
 use Rattle.std.specs.declared.alloc.Global.{Global}
 use Rattle.std.specs.declared.vec.Vec.{Vec}
-use Rattle.script.specs.Adding.{Added, Unadded}
-use Rattle.script.specs.Reasons.{cause-of}
-use Rattle.script.specs.Playing.{Names, Loads, Calls, Plays, curves}
-use Rattle.script.specs.Playing.Plays.{page, no-page, add, no-add}
+use Rattle.session.specs.Adding.{Added, Unadded}
+use Rattle.report.specs.Reasons.{cause-of}
+use Rattle.session.specs.Playing.{Names, Loads, Calls, Plays, curves}
+use Rattle.session.specs.Playing.Plays.{page, no-page, add, no-add}
 use Rattle.script.specs.declared.line.Line.{Line}
 use Rattle.script.specs.declared.line.Line.the-variants.{Page, Add}
-use Rattle.script.specs.declared.outcome.Answer.{Answer}
-use Rattle.script.specs.declared.outcome.Answer.the-variants.{Points, Value, Refused}
-use Rattle.script.specs.declared.outcome.At.the-variants.{Nothing}
-use Rattle.script.specs.declared.outcome.Refusal.{Refusal}
-use Rattle.script.specs.declared.outcome.Subject.{Subject}
-use Rattle.script.specs.declared.outcome.Subject.the-variants.{Page as OfPage, Add as OfAdd}
-use Rattle.script.specs.declared.session.Session.{Session}
+use Rattle.report.specs.declared.outcome.Answer.{Answer}
+use Rattle.report.specs.declared.outcome.Answer.the-variants.{Points, Value, Refused}
+use Rattle.report.specs.declared.outcome.At.the-variants.{Nothing}
+use Rattle.report.specs.declared.outcome.Refusal.{Refusal}
+use Rattle.report.specs.declared.outcome.Subject.{Subject}
+use Rattle.report.specs.declared.outcome.Subject.the-variants.{Page as OfPage, Add as OfAdd}
+use Rattle.session.specs.declared.state.Session.{Session}
 
 module _ (before after : Session) where
   abbrev With : Line → Subject → Answer → Type 0

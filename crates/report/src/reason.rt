@@ -2,7 +2,7 @@
 
 ghost use mathlib.Core.Path.{_≡_};
 ghost use Rattle.cause.specs.declared.Cause.the-variants.{PageShape, PageMonth, PageHaircut, FieldOutside};
-ghost use Rattle.script.specs.Reasons.{cause-of};
+ghost use Rattle.report.specs.Reasons.{cause-of};
 use cause::Cause;
 use curve::curve::page::PageFault;
 use curve::lot::Terms;

@@ -2,8 +2,8 @@
 
 use Rattle.cause.specs.declared.Cause.{Cause}
 use Rattle.cause.specs.declared.Cause.the-variants.{PageShape, PageMonth, PageHaircut, PlaceOutside, FieldOutside}
-use Rattle.script.specs.declared.reason.Reason.{Reason}
-use Rattle.script.specs.declared.reason.Reason.the-variants.{Plain, PageEmpty, PointsOutside, LengthWrong, FirstMonth, MonthFalling, MonthLate, HaircutFalling, HaircutLarge, LotPlace, IssuerLarge, ClassLarge, RatingOutside, MonthsLarge, ValueOutside}
+use Rattle.report.specs.declared.reason.Reason.{Reason}
+use Rattle.report.specs.declared.reason.Reason.the-variants.{Plain, PageEmpty, PointsOutside, LengthWrong, FirstMonth, MonthFalling, MonthLate, HaircutFalling, HaircutLarge, LotPlace, IssuerLarge, ClassLarge, RatingOutside, MonthsLarge, ValueOutside}
 
 abbrev pub cause-of : Reason → Cause
 cause-of (Plain c) = c

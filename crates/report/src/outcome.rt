@@ -2,7 +2,7 @@
 
 ghost use mathlib.Core.Path.{_≡_};
 ghost use Rattle.cause.specs.Numbers.{number as listed};
-ghost use Rattle.script.specs.Reasons.{cause-of};
+ghost use Rattle.report.specs.Reasons.{cause-of};
 use crate::explain::ReasonDisplay;
 use crate::reason::Reason;
 use cause::Cause;

@@ -1,9 +1,9 @@
 use mathlib.Core.Path.{refl, _∙_}
 use borrow.Author.Needs.{needs}
-use Rattle.script.specs.Playing.{Calls}
-use Rattle.script.proofs.Played.{added, unadded}
-use Rattle.script.proofs.session.Session.add_lot.Needs as need
-use Rattle.script.proofs.session.Session.add_lot.Needs.{in-Ok, in-Err}
+use Rattle.session.specs.Playing.{Calls}
+use Rattle.session.proofs.Played.{added, unadded}
+use Rattle.session.proofs.state.Session.add_lot.Needs as need
+use Rattle.session.proofs.state.Session.add_lot.Needs.{in-Ok, in-Err}
 
 pub returns : need.returns
 returns c =

@@ -1,9 +1,9 @@
 use mathlib.Core.Path.{refl, ap}
 use borrow.Author.Needs.{needs}
-use Rattle.script.specs.Playing.{Loads}
-use Rattle.script.proofs.Played.{loaded, unloaded}
-use Rattle.script.proofs.session.Session.load_page.Needs as need
-use Rattle.script.proofs.session.Session.load_page.Needs.{in-Ok, in-Err}
+use Rattle.session.specs.Playing.{Loads}
+use Rattle.session.proofs.Played.{loaded, unloaded}
+use Rattle.session.proofs.state.Session.load_page.Needs as need
+use Rattle.session.proofs.state.Session.load_page.Needs.{in-Ok, in-Err}
 
 pub returns : need.returns
 returns c =

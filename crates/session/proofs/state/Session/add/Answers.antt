@@ -2,8 +2,8 @@ use mathlib.Core.Path.{refl}
 use native.Mathlib.Omega.{arith}
 use borrow.Author.Needs.{needs}
 use Rattle.std.proofs.shelf.Results.{err-from-errBy}
-use Rattle.script.specs.Adding.Unadded.{outside, taken, unpriced}
-use Rattle.script.proofs.session.Session.add.Needs as need
+use Rattle.session.specs.Adding.Unadded.{outside, taken, unpriced}
+use Rattle.session.proofs.state.Session.add.Needs as need
 
 pub returns-then-place-gt63 : need.returns-then-place-gt63
 returns-then-place-gt63 c = record { same = search needs; cases = (outside (omega arith), refl) }

@@ -1,0 +1,3 @@
+// A day of one book, played line by line.
+
+pub mod state;
