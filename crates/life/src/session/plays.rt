@@ -17,7 +17,9 @@ ghost use Rattle.calls.specs.declared.Instruction.{Instruction as Instructed};
 ghost use Rattle.calls.specs.Life.{Life, Sound};
 ghost use Rattle.calls.specs.State.{opening as new-state};
 ghost use Rattle.book.specs.Readings.{lot-read, exposure-read, pledge-read, run-open};
-
+use crate::order::Order;
+use crate::order::Outcome;
+use crate::session::Session;
 use binder::Binder;
 use book::book::Book;
 use book::book::allocate::AllocateFault;
@@ -27,9 +29,6 @@ use calls::Exposure;
 use calls::Instruction;
 use cause::Cause;
 use cover::Record;
-use crate::order::Order;
-use crate::order::Outcome;
-use crate::session::Session;
 use curve::card::Card;
 use curve::lot::Lot;
 use curve::lot::Terms;
@@ -54,13 +53,7 @@ fn withdraw(book: &mut Book, place: u64) -> Outcome
     }
 }
 
-fn open<B: Binder>(
-    book: &mut Book,
-    binder: &B,
-    place: u64,
-    amount: u64,
-    schedule: u64,
-) -> Outcome
+fn open<B: Binder>(book: &mut Book, binder: &B, place: u64, amount: u64, schedule: u64) -> Outcome
     ensures none { λ r. ⌜ count-of r ≡ 0 ⌝ }
     ensures turn { λ r. ⌜ ((k : Carded) → Turn (B·Binder .meaning (now (binder .entry))) k (Open place amount schedule) (view (now (book .entry))) r [] (view (now (book .exit)))) ⌝ }
 {
@@ -127,11 +120,7 @@ fn allocate<B: Binder>(book: &mut Book, binder: &B, slip: &Option<Slip>) -> Outc
     }
 }
 
-fn settle(
-    book: &mut Book,
-    slip: Option<Slip>,
-    list: &mut [Instruction],
-) -> (Outcome, Option<Slip>)
+fn settle(book: &mut Book, slip: Option<Slip>, list: &mut [Instruction]) -> (Outcome, Option<Slip>)
     requires { ⌜ Matched (now book) slip ⌝ }
     ensures turn { λ r. ⌜ ((m : Meaning) (k : Carded) → Turn m k Settle (view (now (book .entry))) (r .0) (take (count-of (r .0)) (now (list .exit))) (view (now (book .exit)))) ⌝ }
     ensures room { λ r. ⌜ count-of (r .0) ≤ length (now (list .entry)) ⌝ }
