@@ -103,6 +103,20 @@ def words_of(text):
     return set(WORD.findall(text))
 
 
+def borrowed(text):
+    """The names that a file takes from a library of the kit: these keep their spelling there."""
+    own = {c.name for c in (TOP / 'crates').iterdir()}
+    names = set()
+    for module, braces in re.findall(r'^\s*(?:pub |ghost )*use ([^\s{]+)\.\{([^}]*)\}', text, re.M):
+        parts = module.split('.')
+        if parts[0] == 'Rattle' and len(parts) > 1 and parts[1] in own:
+            continue
+        for item in braces.split(','):
+            names.update(w.strip() for w in item.split(' as ')[-1:])
+            names.add(item.split(' as ')[0].strip())
+    return names
+
+
 def respelled(line, table):
     """The line with its names respelled; the word "Sum" of a remark stays."""
     remark = line.find('-- ')
@@ -130,7 +144,9 @@ def main():
     changed = 0
     for path in [*files(), *sources(), *edits]:
         old = path.read_text()
-        new = '\n'.join(respelled(line, table) for line in old.split('\n'))
+        theirs = borrowed(old)
+        own = {n: m for n, m in table.items() if n not in theirs}
+        new = '\n'.join(respelled(line, own) for line in old.split('\n'))
         if new != old:
             path.write_text(new)
             changed += 1

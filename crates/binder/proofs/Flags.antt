@@ -1,7 +1,7 @@
 -- Flags: a list of them all down, and a list after one was put up.
 
 use Rattle.std.proofs.Common.{◌≡◌, ℕ, zero, suc, ◌+◌, ◌<◌, ◌≤◌, Bool, true, false, cond, ◌||◌, eqb, ◌≢◌, List, [], ◌∷◌, length, get_or, set, replicate, sym, refl, ap, ◌∙◌, ⊎_elim, arith, get_or-set_other, get_or-set_same}
-use Rattle.std.proofs.lemmas.Bool.{cases_eq, eq_eqb, ne_eqb}
+use Rattle.std.proofs.lemmas.Bool.{cases_eq, eq-eqb, ne_eqb}
 use Rattle.binder.specs.Issuers.{listed, number_of, with_issuer}
 
 pub none_listed : (n i : ℕ) → listed (replicate n false) i ≡ false
@@ -18,6 +18,6 @@ one_more (b ∷ bs) (suc i) h e = omega (arith, one_more bs i (omega arith) e)
 -- and the others are as they were
 pub raised : (bs : List Bool) (i : ℕ) → i < length bs → (j : ℕ) → listed (set bs i true) j ≡ with_issuer i (listed bs) j
 raised bs i h j = ⊎_elim
-    (λ e. rw (eq_eqb j i e, e) (get_or-set_same bs i true false h))
+    (λ e. rw (eq-eqb j i e, e) (get_or-set_same bs i true false h))
     (λ ne. rw (ne_eqb j i ne) (get_or-set_other bs i j true false ne))
     (cases_eq j i)

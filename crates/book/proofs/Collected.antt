@@ -3,7 +3,7 @@
 -- Both lists of instructions are collected the same way: at each place one instruction or none. What is written so far
 -- is the collection so far, so before a record is written there is room for it as long as there is room for the whole.
 
-use Rattle.std.proofs.Common.{◌≡◌, ℕ, zero, suc, ◌+◌, ◌-◌, ◌*◌, ◌/◌, ◌%◌, ◌<◌, ◌≤◌, Bool, true, false, cond, eqb, ◌⊎◌, List, [], ◌∷◌, ◌++◌, length, get_or, take, drop, set, sym, refl, ap, ◌∙◌, subst, inl, inr, ⊎_elim, append_assoc, append-nil, add-zero, add-one, arith, length-append, drop-cons, eq_eqb}
+use Rattle.std.proofs.Common.{◌≡◌, ℕ, zero, suc, ◌+◌, ◌-◌, ◌*◌, ◌/◌, ◌%◌, ◌<◌, ◌≤◌, Bool, true, false, cond, eqb, ◌⊎◌, List, [], ◌∷◌, ◌++◌, length, get_or, take, drop, set, sym, refl, ap, ◌∙◌, subst, inl, inr, ⊎_elim, append_assoc, append-nil, add-zero, add-one, arith, length-append, drop-cons, eq-eqb}
 use Rattle.std.proofs.lemmas.Bool.{cases_eq, ne_eqb}
 use Rattle.std.proofs.lemmas.List.{set_at}
 use Rattle.network.specs.Sums.{sum_over}
@@ -72,13 +72,13 @@ move_one : (l e old new : ℕ) → (new ≡ old → ⊥) → length (move l e ol
 move_one l e old new h = rw (ne_eqb new old h) refl
 
 pub move_short : (l e old new : ℕ) → length (move l e old new) ≤ 1
-move_short l e old new = ⊎_elim (λ s. rw (eq_eqb new old s) (omega arith)) (λ d. rw (ne_eqb new old d) (omega arith)) (cases_eq new old)
+move_short l e old new = ⊎_elim (λ s. rw (eq-eqb new old s) (omega arith)) (λ d. rw (ne_eqb new old d) (omega arith)) (cases_eq new old)
 
 pub move_none : (l e old new : ℕ) → new ≡ old → length (move l e old new) ≡ 0
-move_none l e old new h = rw (eq_eqb new old h) refl
+move_none l e old new h = rw (eq-eqb new old h) refl
 
 differs : (a b : ℕ) → eqb b a ≡ false → b ≡ a → ⊥
-differs a b f e = let t = eq_eqb b a e in let z : ◌≡◌ {A = ℕ} 0 1 = cc in omega arith
+differs a b f e = let t = eq-eqb b a e in let z : ◌≡◌ {A = ℕ} 0 1 = cc in omega arith
 
 -- a turn of the loop, at place i of n, with room for all
 module _ (f : ℕ → List Instruction) (i n : ℕ) (old list : List Instruction) (l e a b : ℕ) (is : f i ≡ move l e a b) (below : i < n)

@@ -1,6 +1,6 @@
 -- Answers that are written down one after the other, and what they amount to.
 
-use Rattle.std.proofs.Common.{◌≡◌, ℕ, zero, suc, ◌+◌, ◌*◌, ◌/◌, ◌%◌, ◌^◌, ◌<◌, ◌≤◌, Bool, true, false, ◌&&◌, eqb, ◌≢◌, List, [], ◌∷◌, length, get_or, set, is_some, Some, None, Option, sym, refl, ap, ◌∙◌, subst, arith, get_or-set_other, get_or-set_same, below_more, eq_eqb}
+use Rattle.std.proofs.Common.{◌≡◌, ℕ, zero, suc, ◌+◌, ◌*◌, ◌/◌, ◌%◌, ◌^◌, ◌<◌, ◌≤◌, Bool, true, false, ◌&&◌, eqb, ◌≢◌, List, [], ◌∷◌, length, get_or, set, is_some, Some, None, Option, sym, refl, ap, ◌∙◌, subst, arith, get_or-set_other, get_or-set_same, below_more, eq-eqb}
 use Rattle.std.proofs.lemmas.Bool.{eqb-true}
 use Rattle.std.proofs.lemmas.Bool.Decides.{nat_tests}
 use Rattle.binder.specs.Meaning.{Meaning}
@@ -72,7 +72,7 @@ module _ (m : Meaning) (lots : List (Option Lot)) (xs : List (Option Exposure)) 
   same_limit l e hl he hh ho =
       let i = issuer_of (lot_at lots l) in
       let test : ℕ → Bool = λ k. flag held k && eqb (at issuer k) i in
-      let mine : test l ≡ true = both_true _ _ (nl.held_is l hl ∙ hh) (eq_eqb (at issuer l) i (nl.issuer_is l hl)) in
+      let mine : test l ≡ true = both_true _ _ (nl.held_is l hl ∙ hh) (eq-eqb (at issuer l) i (nl.issuer_is l hl)) in
       let t = least test 63 in
       let first = least_passes test 63 l (omega arith) mine in
       let low : t < 64 = omega (arith, least_le test 63) in

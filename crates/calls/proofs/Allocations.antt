@@ -5,7 +5,7 @@
 -- answer is the one that fits.
 
 use Rattle.std.proofs.Common.{◌≡◌, ℕ, true, not, eqb, ◌⊎◌, List, Some, None, Option, refl, ap, subst, inl, inr, arith}
-use Rattle.std.proofs.lemmas.Bool.{eq_eqb, and_from}
+use Rattle.std.proofs.lemmas.Bool.{eq-eqb, and_from}
 use Rattle.cause.specs.declared.Cause.{Cause}
 use Rattle.cause.specs.declared.Cause.TheVariants.{SlipStale}
 use Rattle.binder.specs.Meaning.{Meaning}
@@ -60,7 +60,7 @@ module _ (m : Meaning) (s : State) (note : Record) (o : Outcome) (t : State) whe
 
   pub allocates : s.in_run ≡ true → Step m (allocate (slip_of_run s) note) s o t → Allocates m s note o t
   allocates run step =
-      let mine : own s (slip_of_run s) ≡ true = and_from s.in_run _ run (and_from (eqb s.number s.number) _ (eq_eqb s.number s.number refl) (eq_eqb s.run s.run refl)) in
+      let mine : own s (slip_of_run s) ≡ true = and_from s.in_run _ run (and_from (eqb s.number s.number) _ (eq-eqb s.number s.number refl) (eq-eqb s.run s.run refl)) in
       let free : cause m s (allocate (slip_of_run s) note) ≡ None = ap (λ b. first (not b) SlipStale None) mine in
       let way : Serves m s note o t ⊎ Denies m s o t = subst (λ d. Decided d m (allocate (slip_of_run s) note) s o t) free step in
       elim way [ inl v ↦ served v | inr v ↦ denied v ]

@@ -5,7 +5,7 @@
 -- causes that apply to it are the links of its chain. Two causes with the same number are one, so the smallest is the only one.
 
 use Rattle.std.proofs.Common.{◌≡◌, ℕ, zero, suc, ◌*◌, ◌<◌, ◌≤◌, Bool, true, false, not, ◌&&◌, leb, ◌⊎◌, ◌↔◌, [], ◌∷◌, length, get_or, is_some, Some, None, Decides, Option, sym, refl, ap, ◌∙◌, subst, inl, inr, arith}
-use Rattle.std.proofs.lemmas.Bool.{cases_eq, false≢true, leb-true, le-leb, not_true, not_from_false}
+use Rattle.std.proofs.lemmas.Bool.{cases_eq, false≢true, leb-true, le-leb, not-true, not_from_false}
 use Rattle.std.proofs.lemmas.Bool.Decides.{Decides-ltb, Decides-and, Decides-eqb, Decides-like, Decides-not}
 use Rattle.cause.specs.Numbers.{number}
 use Rattle.cause.specs.declared.Cause.{Cause}
@@ -109,7 +109,7 @@ decides_itself : (b : Bool) → Decides b (b ≡ true)
 decides_itself b = (λ e. e, λ e. e)
 
 decides_unset : (b : Bool) → Decides (not b) (b ≡ false)
-decides_unset b = (not_true b, not_from_false b)
+decides_unset b = (not-true b, not_from_false b)
 
 decides_some : {A : Type 0} (x : Option A) → Decides (is_some x) ((y : A) × (x ≡ Some y))
 decides_some None = (λ e. absurd (false≢true e), λ e. let is = e.1 in cc)

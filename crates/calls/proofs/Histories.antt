@@ -5,7 +5,7 @@
 
 use Rattle.std.proofs.Common.{◌≡◌, ℕ, ◌<◌, false, cond, eqb, ltb, List, length, get_or, set, Some, None, Option, refl, ap, ◌∙◌, inl, inr, arith}
 use Rattle.std.proofs.lemmas.List.{get_or-set_same, get_or-set_other, get_or-replicate}
-use Rattle.std.proofs.lemmas.Bool.{cases_eq, eq_eqb, ne_eqb, ltb-false}
+use Rattle.std.proofs.lemmas.Bool.{cases_eq, eq-eqb, ne_eqb, ltb-false}
 use Rattle.cause.specs.declared.Cause.{Cause}
 use Rattle.binder.specs.Meaning.{Meaning}
 use Rattle.curve.specs.declared.lot.Lot.{Lot}
@@ -26,7 +26,7 @@ use Rattle.calls.proofs.Sizes.{sizes}
 set_told : {A : Type 0} (xs : List (Option A)) (p l : ℕ) (x was : Option A) → p < length xs → get_or xs l None ≡ was → get_or (set xs p x) l None ≡ cond (eqb l p) x was
 set_told xs p l x was h is =
     elim (cases_eq l p) [
-      | inl e ↦ rw (eq_eqb l p e, e) (get_or-set_same xs p x None h)
+      | inl e ↦ rw (eq-eqb l p e, e) (get_or-set_same xs p x None h)
       | inr ne ↦ rw (ne_eqb l p ne) (get_or-set_other xs p l x None ne ∙ is)
     ]
 

@@ -6,7 +6,7 @@
 -- the tables; a closing has one at each lot's place for the exposure that is closed, and none for another exposure.
 
 use Rattle.std.proofs.Common.{◌≡◌, ℕ, zero, suc, ◌+◌, ◌*◌, ◌/◌, ◌%◌, ◌<◌, Bool, true, false, cond, ◌&&◌, eqb, List, [], ◌∷◌, ◌++◌, length, get_or, take, drop, pos, ◌+ℤ◌, ◌-ℤ◌, sym, refl, ap, ◌∙◌, inl, inr, arith}
-use Rattle.std.proofs.lemmas.Bool.{cases_eq, eq_eqb, ne_eqb, and_left, and_right}
+use Rattle.std.proofs.lemmas.Bool.{cases_eq, eq-eqb, ne_eqb, and_left, and_right}
 use Rattle.std.proofs.lemmas.List.{take_at}
 use Rattle.std.proofs.lemmas.Int.{ints}
 use Rattle.calls.specs.declared.Instruction.{Instruction}
@@ -27,8 +27,8 @@ amounts-++ (i ∷ a) b l e = omega (arith, ints, amounts-++ a b l e)
 move_here : (k f old new l e : ℕ) → k ≡ l → f ≡ e → amounts (move k f old new) l e ≡ pos new -ℤ pos old
 move_here k f old new l e a b =
     elim (cases_eq new old) [
-      | inl is ↦ rw (eq_eqb new old is) (omega (arith, ints))
-      | inr ne ↦ rw (ne_eqb new old ne, eq_eqb k l a, eq_eqb f e b) (omega (arith, ints))
+      | inl is ↦ rw (eq-eqb new old is) (omega (arith, ints))
+      | inr ne ↦ rw (ne_eqb new old ne, eq-eqb k l a, eq-eqb f e b) (omega (arith, ints))
     ]
 
 alone : (b : Bool) (i : Instruction) (l e : ℕ) → (eqb i.lot l && eqb i.exposure e) ≡ false → amounts (cond b [] (i ∷ [])) l e ≡ pos 0

@@ -2,7 +2,7 @@
 -- of what is reached.
 
 use Rattle.std.proofs.Common.{◌≡◌, ℕ, ◌-◌, ◌<◌, ◌≤◌, Bool, true, false, cond, eqb, ltb, List, Ok, Err, Result, sym, refl, ap, ◌∙◌, subst, arith}
-use Rattle.std.proofs.lemmas.Bool.{eq_eqb, ne_eqb, ltb-false, cond-true, cond-false}
+use Rattle.std.proofs.lemmas.Bool.{eq-eqb, ne_eqb, ltb-false, cond-true, cond-false}
 use Rattle.network.specs.Sums.{sum_over}
 use Rattle.network.specs.Flow.{value}
 use Rattle.flow.specs.Solved.{Solved}
@@ -32,7 +32,7 @@ module _ {s : Situation} {first flow mark : ℕ → ℕ} {k given due : ℕ} (ru
 
   pub allocated : (before after : List ℕ) (old new : Record) (b : Bool) → Begins s (pledge before) first b → given ≡ due → SameTable (table_of flow) (pledge after) → new ≡ old
       → Allocated s before after old new (cond (eqb given due) (Ok k) (Err (due - given)))
-  allocated before after old new b begins e t n = subst (Allocated s before after old new) (sym (cond-true (eqb given due) (Ok k) (Err (due - given)) (eq_eqb given due e)))
+  allocated before after old new b begins e t n = subst (Allocated s before after old new) (sym (cond-true (eqb given due) (Ok k) (Err (due - given)) (eq-eqb given due e)))
       (granted s (pledge before) (pledge after) first flow k b begins run.solved.rounds run.solved.maximum (sym given_is ∙ e ∙ run.owing) t, n)
 
   pub lacking : (before after : List ℕ) (old new : Record) → (given ≡ due → ⊥) → SameMarks (noted new) (marks_of s (λ v. ltb 0 (mark v))) → after ≡ before

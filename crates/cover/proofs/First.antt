@@ -2,7 +2,7 @@
 
 use Rattle.std.proofs.Common.{◌≡◌, ℕ, ◌+◌, ◌<◌, ◌≤◌, Bool, true, false, cond, ◌&&◌, eqb, ◌⊎◌, List, length, set, replicate, sym, refl, ap, ◌∙◌, subst, inl, inr, arith}
 use lib.ListN.{get_or-replicate}
-use Rattle.std.proofs.lemmas.Bool.{cases_eq, eq_eqb, ne_eqb, and_left, and_right, and_from, cond-true, cond-false}
+use Rattle.std.proofs.lemmas.Bool.{cases_eq, eq-eqb, ne_eqb, and_left, and_right, and_from, cond-true, cond-false}
 use Rattle.table.specs.Table.{Situation, of_issuer}
 use Rattle.table.specs.Drawn.{slot}
 use Rattle.table.proofs.Slots.{least_first, slot_issuer}
@@ -46,7 +46,7 @@ module _ (s : Situation) (first : List ℕ) (n : ℕ) (w : First s first n) wher
     found = λ i h. elim (cases_eq i (s.issuer n)) [
       | inl q ↦
           let here : at (set first (s.issuer n) n) i ≡ n = ap (at (set first (s.issuer n) n)) q ∙ set_here first (s.issuer n) n (omega arith) in
-          inr (omega arith, ap (of_issuer s i) here ∙ and_from (s.held n) _ y (eq_eqb _ _ (sym q)))
+          inr (omega arith, ap (of_issuer s i) here ∙ and_from (s.held n) _ y (eq-eqb _ _ (sym q)))
       | inr d ↦
           let there = set_there first (s.issuer n) n i d in
           elim (w.found i h) [ inl z ↦ inl (there ∙ z) | inr z ↦ inr (omega (arith, z.0), ap (of_issuer s i) there ∙ z.1) ]

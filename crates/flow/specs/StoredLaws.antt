@@ -2,7 +2,7 @@
 
 use Rattle.std.specs.Prelude.{◌≡◌, ℕ, ◌+◌, ◌*◌, ◌^◌, ◌<◌, ◌≤◌, ◌⊎◌, List, length, ◌==◌, ◌≢◌, slice_set, refl}
 use Rattle.std.proofs.Common.{sym, ap, subst, ◌∙◌, inl, inr, arith, length-set}
-use Rattle.std.proofs.lemmas.Bool.{cases_eq, cond-true, cond-false, eq_eqb, ne_eqb}
+use Rattle.std.proofs.lemmas.Bool.{cases_eq, cond-true, cond-false, eq-eqb, ne_eqb}
 use Rattle.network.specs.Sums.{sum_over}
 use Rattle.network.specs.Same.{Same}
 use Rattle.network.proofs.Sums.{sum_term, sum_same, sum_more}
@@ -74,15 +74,15 @@ module _ (n s t : ℕ) (ends caps : List ℕ) (k tl hd c : ℕ) (room : 2 * k + 
         source = refl;
         sink = refl;
         tails = λ i h. elim (cases_eq i k) [
-          | inl e ↦ cond-true (i == k) tl _ (eq_eqb i k e) ∙ sym here_tail ∙ ap (λ x. at ends' (2 * x + 1)) (sym e)
+          | inl e ↦ cond-true (i == k) tl _ (eq-eqb i k e) ∙ sym here_tail ∙ ap (λ x. at ends' (2 * x + 1)) (sym e)
           | inr p ↦ cond-false (i == k) tl _ (ne_eqb i k p) ∙ sym (else_end (2 * i + 1) (λ e. omega arith) (λ e. p (omega arith)))
         ];
         heads = λ i h. elim (cases_eq i k) [
-          | inl e ↦ cond-true (i == k) hd _ (eq_eqb i k e) ∙ sym here_head ∙ ap (λ x. at ends' (2 * x)) (sym e)
+          | inl e ↦ cond-true (i == k) hd _ (eq-eqb i k e) ∙ sym here_head ∙ ap (λ x. at ends' (2 * x)) (sym e)
           | inr p ↦ cond-false (i == k) hd _ (ne_eqb i k p) ∙ sym (else_end (2 * i) (λ e. p (omega arith)) (λ e. omega arith))
         ];
         caps = λ i h. elim (cases_eq i k) [
-          | inl e ↦ cond-true (i == k) c _ (eq_eqb i k e) ∙ sym m.0 ∙ ap (at (slice_set caps k c)) (sym e)
+          | inl e ↦ cond-true (i == k) c _ (eq-eqb i k e) ∙ sym m.0 ∙ ap (at (slice_set caps k c)) (sym e)
           | inr p ↦ cond-false (i == k) c _ (ne_eqb i k p) ∙ sym (m.1 i p)
         ];
       }

@@ -12,17 +12,17 @@ use crate::network::Network;
 
 // The mark of the node that the `j`-th arc of `v` enters.
 fn mark_ahead<G: Network>(network: &G, mark: &[u32], v: usize, j: usize) -> u32
-    requires { (v < (net network.now).nodes) × (j < deg network.now v) × ((net network.now).nodes ≤ length mark.now) }
-    ensures { result ≡ at mark.now (to (net network.now) (inc network.now v j)) }
+    requires { (v < (G.net network.now).nodes) × (j < G.deg network.now v) × ((G.net network.now).nodes ≤ length mark.now) }
+    ensures { result ≡ at mark.now (to (G.net network.now) (G.inc network.now v j)) }
 {
     mark[network.target(v, j)]
 }
 
 // The place of the first arc of `v`, from the place `i` on, that has room and goes a layer on, or the number of its arcs.
 fn first_open<G: Network>(network: &G, flow: &[u64], mark: &[u32], v: usize, i: usize) -> usize
-    requires sizes { (length flow.now ≡ (net network.now).arcs) × ((net network.now).nodes ≤ length mark.now) }
-    requires node { (v < (net network.now).nodes) × (i ≤ deg network.now v) × (at mark.now v ≤ (net network.now).nodes) }
-    ensures { First (net network.now) (deg network.now) (inc network.now) (at flow.now) (at mark.now) v i result }
+    requires sizes { (length flow.now ≡ (G.net network.now).arcs) × ((G.net network.now).nodes ≤ length mark.now) }
+    requires node { (v < (G.net network.now).nodes) × (i ≤ G.deg network.now v) × (at mark.now v ≤ (G.net network.now).nodes) }
+    ensures { First (G.net network.now) (G.deg network.now) (G.inc network.now) (at flow.now) (at mark.now) v i result }
 {
     let layer = mark[v] + 1;
     let end = network.degree(v);
@@ -47,10 +47,10 @@ fn descend<G: Network>(
     stack: &mut [u32],
     d: usize,
 ) -> usize
-    requires sizes { (length flow.now ≡ (net network.now).arcs) × ((net network.now).nodes ≤ length mark.now) × ((net network.now).nodes ≤ length cursor.old) × ((net network.now).nodes ≤ length path.old) × ((net network.now).nodes ≤ length stack.old) }
-    requires marks { Marks (net network.now) (at mark.now) }
-    requires midway { Walking (net network.now) (deg network.now) (inc network.now) (at flow.now) (at mark.now) (at cursor.old) (at path.old) (at stack.old) d }
-    ensures { Descended (net network.now) (deg network.now) (inc network.now) (at flow.now) (at mark.now) (at cursor.new) (at path.new) (at stack.new) result }
+    requires sizes { (length flow.now ≡ (G.net network.now).arcs) × ((G.net network.now).nodes ≤ length mark.now) × ((G.net network.now).nodes ≤ length cursor.old) × ((G.net network.now).nodes ≤ length path.old) × ((G.net network.now).nodes ≤ length stack.old) }
+    requires marks { Marks (G.net network.now) (at mark.now) }
+    requires midway { Walking (G.net network.now) (G.deg network.now) (G.inc network.now) (at flow.now) (at mark.now) (at cursor.old) (at path.old) (at stack.old) d }
+    ensures { Descended (G.net network.now) (G.deg network.now) (G.inc network.now) (at flow.now) (at mark.now) (at cursor.new) (at path.new) (at stack.new) result }
 {
     let t = network.sink();
     let mut d = d;
@@ -76,9 +76,9 @@ fn descend<G: Network>(
 
 // What can still be sent along the residual arc `a`.
 fn room_of<G: Network>(network: &G, flow: &[u64], a: usize) -> u64
-    requires flow_len { (length flow.now ≡ (net network.now).arcs) × (a < 2 * (net network.now).arcs) }
-    requires by_index { (k : ℕ) → k < (net network.now).arcs → at flow.now k ≤ (net network.now).cap k }
-    ensures { result ≡ room (net network.now) (at flow.now) a }
+    requires flow_len { (length flow.now ≡ (G.net network.now).arcs) × (a < 2 * (G.net network.now).arcs) }
+    requires by_index { (k : ℕ) → k < (G.net network.now).arcs → at flow.now k ≤ (G.net network.now).cap k }
+    ensures { result ≡ room (G.net network.now) (at flow.now) a }
 {
     let k = a / 2;
     if a % 2 == 0 {
@@ -90,10 +90,10 @@ fn room_of<G: Network>(network: &G, flow: &[u64], a: usize) -> u64
 
 // The least room along the first `d` arcs of `path`, and the place of the first arc that has no more.
 fn bottleneck<G: Network>(network: &G, flow: &[u64], path: &[u32], d: usize) -> (u64, usize)
-    requires sizes { (length flow.now ≡ (net network.now).arcs) × (d ≤ length path.now) × (0 < d) }
-    requires within { (k : ℕ) → k < (net network.now).arcs → at flow.now k ≤ (net network.now).cap k }
-    requires known { (i : ℕ) → i < d → at path.now i < 2 * (net network.now).arcs }
-    ensures { Least (net network.now) (at flow.now) (at path.now) d result.0 result.1 }
+    requires sizes { (length flow.now ≡ (G.net network.now).arcs) × (d ≤ length path.now) × (0 < d) }
+    requires within { (k : ℕ) → k < (G.net network.now).arcs → at flow.now k ≤ (G.net network.now).cap k }
+    requires known { (i : ℕ) → i < d → at path.now i < 2 * (G.net network.now).arcs }
+    ensures { Least (G.net network.now) (at flow.now) (at path.now) d result.0 result.1 }
 {
     let mut least = room_of(network, flow, path[0] as usize);
     let mut first = 0;
@@ -109,10 +109,10 @@ fn bottleneck<G: Network>(network: &G, flow: &[u64], path: &[u32], d: usize) -> 
 
 // Sends `x` along the residual arc `a`.
 fn send_one<G: Network>(network: &G, flow: &mut [u64], a: usize, x: u64)
-    requires flow_len { (length flow.old ≡ (net network.now).arcs) × (a < 2 * (net network.now).arcs) }
-    requires x_bound { x ≤ room (net network.now) (at flow.old) a }
-    requires by_index { (k : ℕ) → k < (net network.now).arcs → at flow.old k ≤ (net network.now).cap k }
-    ensures { Pushed (net network.now) (at flow.old) (at flow.new) a x }
+    requires flow_len { (length flow.old ≡ (G.net network.now).arcs) × (a < 2 * (G.net network.now).arcs) }
+    requires x_bound { x ≤ room (G.net network.now) (at flow.old) a }
+    requires by_index { (k : ℕ) → k < (G.net network.now).arcs → at flow.old k ≤ (G.net network.now).cap k }
+    ensures { Pushed (G.net network.now) (at flow.old) (at flow.new) a x }
 {
     let k = a / 2;
     if a % 2 == 0 {
@@ -124,13 +124,13 @@ fn send_one<G: Network>(network: &G, flow: &mut [u64], a: usize, x: u64)
 
 // Sends `x` along the first `d` arcs of `path`. `_mark` says why no two of them are of one arc.
 fn send<G: Network>(network: &G, flow: &mut [u64], _mark: &[u32], path: &[u32], d: usize, x: u64)
-    requires sizes { (length flow.old ≡ (net network.now).arcs) × (d ≤ length path.now) }
-    requires first { at _mark.now (net network.now).source ≡ 1 }
-    requires within { (k : ℕ) → k < (net network.now).arcs → at flow.old k ≤ (net network.now).cap k }
-    requires trail { Trail (net network.now) (at flow.old) (at _mark.now) (at path.now) d }
-    requires fits { (i : ℕ) → i < d → x ≤ room (net network.now) (at flow.old) (at path.now i) }
-    ensures sent { Sent (net network.now) (at flow.old) (at flow.new) (at _mark.now) x (stop (net network.now) (at path.now) d) }
-    ensures along { (j : ℕ) → j < d → room (net network.now) (at flow.new) (at path.now j) + x ≡ room (net network.now) (at flow.old) (at path.now j) }
+    requires sizes { (length flow.old ≡ (G.net network.now).arcs) × (d ≤ length path.now) }
+    requires first { at _mark.now (G.net network.now).source ≡ 1 }
+    requires within { (k : ℕ) → k < (G.net network.now).arcs → at flow.old k ≤ (G.net network.now).cap k }
+    requires trail { Trail (G.net network.now) (at flow.old) (at _mark.now) (at path.now) d }
+    requires fits { (i : ℕ) → i < d → x ≤ room (G.net network.now) (at flow.old) (at path.now i) }
+    ensures sent { Sent (G.net network.now) (at flow.old) (at flow.new) (at _mark.now) x (stop (G.net network.now) (at path.now) d) }
+    ensures along { (j : ℕ) → j < d → room (G.net network.now) (at flow.new) (at path.now j) + x ≡ room (G.net network.now) (at flow.old) (at path.now j) }
 {
     for i in 0..d {
         send_one(network, flow, path[i] as usize, x);
@@ -147,10 +147,10 @@ pub(crate) fn block<G: Network>(
     path: &mut [u32],
     stack: &mut [u32],
 )
-    requires sizes { (length flow.old ≡ (net network.now).arcs) × ((net network.now).nodes ≤ length mark.now) × ((net network.now).nodes ≤ length cursor.old) × ((net network.now).nodes ≤ length path.old) × ((net network.now).nodes ≤ length stack.old) }
-    requires marks { Marks (net network.now) (at mark.now) }
-    requires flows { Flow (net network.now) (at flow.old) }
-    ensures { Filled (net network.now) (at flow.old) (at flow.new) (at mark.now) }
+    requires sizes { (length flow.old ≡ (G.net network.now).arcs) × ((G.net network.now).nodes ≤ length mark.now) × ((G.net network.now).nodes ≤ length cursor.old) × ((G.net network.now).nodes ≤ length path.old) × ((G.net network.now).nodes ≤ length stack.old) }
+    requires marks { Marks (G.net network.now) (at mark.now) }
+    requires flows { Flow (G.net network.now) (at flow.old) }
+    ensures { Filled (G.net network.now) (at flow.old) (at flow.new) (at mark.now) }
 {
     cursor.fill(0);
     stack[0] = network.source() as u32;

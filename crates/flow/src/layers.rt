@@ -22,8 +22,8 @@ fn used(x: u64) -> bool
 
 // Whether more can be sent along the residual arc `a`.
 pub(crate) fn has_room<G: Network>(network: &G, flow: &[u64], a: usize) -> bool
-    requires { (length flow.now ≡ (net network.now).arcs) × (a < 2 * (net network.now).arcs) }
-    ensures { result ≡ nat_lt 0 (room (net network.now) (at flow.now) a) }
+    requires { (length flow.now ≡ (G.net network.now).arcs) × (a < 2 * (G.net network.now).arcs) }
+    ensures { result ≡ nat_lt 0 (room (G.net network.now) (at flow.now) a) }
 {
     let k = a / 2;
     if a % 2 == 0 {
@@ -42,9 +42,9 @@ fn spread<G: Network>(
     done: usize,
     count: usize,
 ) -> usize
-    requires sizes { (length flow.now ≡ (net network.now).arcs) × ((net network.now).nodes ≤ length mark.old) × ((net network.now).nodes ≤ length queue.old) }
-    requires midway { Bfs (net network.now) (at flow.now) (at mark.old) (at queue.old) done count × (done < count) }
-    ensures { Bfs (net network.now) (at flow.now) (at mark.new) (at queue.new) (done + 1) result }
+    requires sizes { (length flow.now ≡ (G.net network.now).arcs) × ((G.net network.now).nodes ≤ length mark.old) × ((G.net network.now).nodes ≤ length queue.old) }
+    requires midway { Bfs (G.net network.now) (at flow.now) (at mark.old) (at queue.old) done count × (done < count) }
+    ensures { Bfs (G.net network.now) (at flow.now) (at mark.new) (at queue.new) (done + 1) result }
 {
     let mut count = count;
     let v = queue[done] as usize;
@@ -63,8 +63,8 @@ fn spread<G: Network>(
 // Marks each node that residual arcs lead to from the source by 1 more than the fewest of them, and every other by 0. Where it comes to
 // the sink it stops, and nodes that are no nearer than the sink may be left at 0.
 pub(crate) fn layers<G: Network>(network: &G, flow: &[u64], mark: &mut [u32], queue: &mut [u32])
-    requires sizes { (length flow.now ≡ (net network.now).arcs) × ((net network.now).nodes ≤ length mark.old) × ((net network.now).nodes ≤ length queue.old) }
-    ensures { Searched (net network.now) (at flow.now) (at mark.new) }
+    requires sizes { (length flow.now ≡ (G.net network.now).arcs) × ((G.net network.now).nodes ≤ length mark.old) × ((G.net network.now).nodes ≤ length queue.old) }
+    ensures { Searched (G.net network.now) (at flow.now) (at mark.new) }
 {
     mark.fill(0);
     let s = network.source();

@@ -32,9 +32,9 @@ fn run<G: Network>(
     cursor: &mut [u32],
     path: &mut [u32],
 ) -> usize
-    requires sizes { Sizes (net network.now) (length flow.old) (length mark.old) (length queue.old) (length cursor.old) (length path.old) }
-    requires flows { Flow (net network.now) (at flow.old) }
-    ensures { Solved (net network.now) (at flow.old) (at flow.new) (at mark.new) result }
+    requires sizes { Sizes (G.net network.now) (length flow.old) (length mark.old) (length queue.old) (length cursor.old) (length path.old) }
+    requires flows { Flow (G.net network.now) (at flow.old) }
+    ensures { Solved (G.net network.now) (at flow.old) (at flow.new) (at mark.new) result }
 {
     let t = network.sink();
     layers(network, flow, mark, queue);
@@ -56,8 +56,8 @@ fn solve<G: Network>(
     cursor: &mut [u32],
     path: &mut [u32],
 ) -> usize
-    requires { Sizes (net network.now) (length flow.old) (length mark.old) (length queue.old) (length cursor.old) (length path.old) }
-    ensures { Solved (net network.now) (initial network.now) (at flow.new) (at mark.new) result }
+    requires { Sizes (G.net network.now) (length flow.old) (length mark.old) (length queue.old) (length cursor.old) (length path.old) }
+    ensures { Solved (G.net network.now) (G.initial network.now) (at flow.new) (at mark.new) result }
 {
     network.load(flow);
     run(network, flow, mark, queue, cursor, path)
@@ -72,8 +72,8 @@ fn solve_anew<G: Network>(
     cursor: &mut [u32],
     path: &mut [u32],
 ) -> usize
-    requires { Sizes (net network.now) (length flow.old) (length mark.old) (length queue.old) (length cursor.old) (length path.old) }
-    ensures { Solved (net network.now) (λ _. 0) (at flow.new) (at mark.new) result }
+    requires { Sizes (G.net network.now) (length flow.old) (length mark.old) (length queue.old) (length cursor.old) (length path.old) }
+    ensures { Solved (G.net network.now) (λ _. 0) (at flow.new) (at mark.new) result }
 {
     clear(flow);
     run(network, flow, mark, queue, cursor, path)
@@ -95,7 +95,7 @@ fn check<G: Network>(
     cursor: &[u32],
     path: &[u32],
 ) -> Result<(), Refusal>
-    ensures { Checked (net network.now) (length flow.now) (length mark.now) (length queue.now) (length cursor.now) (length path.now) result }
+    ensures { Checked (G.net network.now) (length flow.now) (length mark.now) (length queue.now) (length cursor.now) (length path.now) result }
 {
     let nodes = network.nodes();
     if flow.len() != network.arcs() {
@@ -120,7 +120,7 @@ pub fn maximize<G: Network>(
     cursor: &mut [u32],
     path: &mut [u32],
 ) -> Result<usize, Refusal>
-    ensures { Outcome (net network.now) (initial network.now) flow.old mark.old queue.old cursor.old path.old flow.new mark.new queue.new cursor.new path.new result }
+    ensures { Outcome (G.net network.now) (G.initial network.now) flow.old mark.old queue.old cursor.old path.old flow.new mark.new queue.new cursor.new path.new result }
 {
     check(network, flow, mark, queue, cursor, path)?;
     Ok(solve(network, flow, mark, queue, cursor, path))
@@ -135,7 +135,7 @@ pub fn maximize_from_zero<G: Network>(
     cursor: &mut [u32],
     path: &mut [u32],
 ) -> Result<usize, Refusal>
-    ensures { Outcome (net network.now) (λ _. 0) flow.old mark.old queue.old cursor.old path.old flow.new mark.new queue.new cursor.new path.new result }
+    ensures { Outcome (G.net network.now) (λ _. 0) flow.old mark.old queue.old cursor.old path.old flow.new mark.new queue.new cursor.new path.new result }
 {
     check(network, flow, mark, queue, cursor, path)?;
     Ok(solve_anew(network, flow, mark, queue, cursor, path))

@@ -1,6 +1,6 @@
 -- Orders as calls, and the slip that is held after each.
 
-use Rattle.std.proofs.Common.{◌≡◌, ℕ, Bool, true, false, cond, not, ◌&&◌, eqb, leb, ◌⊎◌, List, [], ◌++◌, take, Some, None, Ok, Err, Option, Result, sym, refl, ap, ◌∙◌, subst, inl, inr, ⊎_elim, append_assoc, append-nil, arith, eq_eqb}
+use Rattle.std.proofs.Common.{◌≡◌, ℕ, Bool, true, false, cond, not, ◌&&◌, eqb, leb, ◌⊎◌, List, [], ◌++◌, take, Some, None, Ok, Err, Option, Result, sym, refl, ap, ◌∙◌, subst, inl, inr, ⊎_elim, append_assoc, append-nil, arith, eq-eqb}
 use Rattle.std.proofs.lemmas.Bool.{eqb-true}
 use Rattle.cause.specs.declared.Cause.{Cause}
 use Rattle.cause.specs.declared.Cause.TheVariants.{RunOpen, RunsSpent, SlipStale}
@@ -65,7 +65,7 @@ pub no_call : (s : State) (f : Numbers → Call) → has_slip s None ≡ true �
 no_call s f h = ap (λ n. with_slip n f) (slip_none s h)
 
 eqb_self : (n : ℕ) → eqb n n ≡ true
-eqb_self n = eq_eqb n n refl
+eqb_self n = eq-eqb n n refl
 
 -- what is held after a call that went with the slip, or opened a run
 module _ (m : Meaning) (s t : State) where

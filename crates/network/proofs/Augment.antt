@@ -2,7 +2,7 @@
 -- a layer on. So what is sent along one arc of the trail leaves the room of the others as it was, and all of them can be sent the same.
 
 use Rattle.std.proofs.Common.{◌≡◌, ℕ, zero, suc, ◌+◌, ◌-◌, ◌*◌, ◌/◌, ◌%◌, ◌<◌, ◌≤◌, Bool, true, false, cond, eqb, ◌⊎◌, sym, refl, ap, ◌∙◌, subst, inl, inr, add-one, arith}
-use Rattle.std.proofs.lemmas.Bool.{cases_eq, cases_lt, eq_eqb, ne_eqb, cond-true, cond-false}
+use Rattle.std.proofs.lemmas.Bool.{cases_eq, cases_lt, eq-eqb, ne_eqb, cond-true, cond-false}
 use Rattle.network.specs.Sums.{sum_over, when}
 use Rattle.network.specs.Flow.{Net, over, out_of, into, Sound, Flow, Less}
 use Rattle.network.specs.Residual.{from, to, room, way}
@@ -140,7 +140,7 @@ sent_flow N f₀ f mark x q s = record {
 -- and of a greater value
 pub sent_less : (N : Net) (f₀ f mark : ℕ → ℕ) (x : ℕ) → Sound N → Sent N f₀ f mark x N.sink → 0 < x → Less N f₀ f
 sent_less N f₀ f mark x s t h =
-    omega (arith, t.balance N.source, cond-true (eqb N.source N.source) x 0 (eq_eqb _ _ refl), cond-false (eqb N.source N.sink) x 0 (ne_eqb _ _ s.apart))
+    omega (arith, t.balance N.source, cond-true (eqb N.source N.source) x 0 (eq-eqb _ _ refl), cond-false (eqb N.source N.sink) x 0 (ne_eqb _ _ s.apart))
 
 -- stops depend on the arcs before them
 pub stop_same : (N : Net) (p q : ℕ → ℕ) (i d : ℕ) → i ≤ d → ((j : ℕ) → j < d → p j ≡ q j) → stop N p i ≡ stop N q i

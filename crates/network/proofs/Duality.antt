@@ -6,7 +6,7 @@
 -- sends back into it. No arc carries more than its capacity, so the first is at most the cut's capacity, and the second at least 0.
 
 use Rattle.std.proofs.Common.{◌≡◌, ℕ, zero, suc, ◌+◌, ◌-◌, ◌<◌, ◌≤◌, Bool, true, false, cond, not, ◌&&◌, eqb, ltb, ◌⊎◌, sym, refl, ap, ◌∙◌, subst, inl, inr, arith}
-use Rattle.std.proofs.lemmas.Bool.{cases_eq, cases_Bool, both_ways, eq_eqb, ne_eqb}
+use Rattle.std.proofs.lemmas.Bool.{cases_eq, cases_Bool, both_ways, eq-eqb, ne_eqb}
 use Rattle.std.proofs.lemmas.Bool.Decides.{nat_tests}
 use Rattle.network.specs.Sums.{sum_over, when}
 use Rattle.network.specs.Flow.{Net, over, out_of, into, across, Sound, Flow, Cut, value, capacity}
@@ -100,7 +100,7 @@ module _ (N : Net) (f : ℕ → ℕ) (S : ℕ → Bool) (q : Flow N f) (c : Cut 
 
 -- the source alone is a cut
 pub source_cut : (N : Net) → Sound N → Cut N (eqb N.source)
-source_cut N s = record { has_source = eq_eqb _ _ refl; lacks_sink = ne_eqb _ _ s.apart }
+source_cut N s = record { has_source = eq-eqb _ _ refl; lacks_sink = ne_eqb _ _ s.apart }
 
 -- so the source's arcs bound what leaves it
 pub source_bound : (N : Net) (f : ℕ → ℕ) → Sound N → Flow N f → out_of N (eqb N.source) f ≤ capacity N (eqb N.source) + into N (eqb N.source) f

@@ -1,7 +1,7 @@
 -- Layers: by arcs they are those by walks; each flow has them; and a node's layer is no farther than there are nodes.
 
 use Rattle.std.proofs.Common.{◌≡◌, ℕ, zero, suc, ◌+◌, ◌-◌, ◌*◌, ◌/◌, ◌%◌, ◌<◌, ◌≤◌, Bool, true, false, cond, ◌&&◌, ◌||◌, eqb, ltb, leb, ◌⊎◌, sym, refl, ap, ◌∙◌, subst, inl, inr, arith}
-use Rattle.std.proofs.lemmas.Bool.{ltb-true, lt-ltb, eqb-true, eq_eqb, cases_eq, cases_lt, cases_Bool, and_parts, and_from, or_cases, or_left, or_right}
+use Rattle.std.proofs.lemmas.Bool.{ltb-true, lt-ltb, eqb-true, eq-eqb, cases_eq, cases_lt, cases_Bool, and_parts, and_from, or_cases, or_left, or_right}
 use Rattle.std.proofs.lemmas.Bool.Decides.{nat_tests}
 use Rattle.network.specs.Sums.{sum_over, when}
 use Rattle.network.specs.Flow.{Net, Sound}
@@ -193,10 +193,10 @@ module _ (N : Net) (f : ℕ → ℕ) where
       subst (λ u. Walk N f u (suc d)) (eqb-true (to N t.0) v q.0) (step t.0 (comes_walk d (from N t.0) q.1) t.1 (ltb-true 0 _ p.0))
 
   walk_comes : (d v : ℕ) → Walk N f v d → comes d v ≡ true
-  walk_comes d v stay = eq_eqb N.source N.source refl
+  walk_comes d v stay = eq-eqb N.source N.source refl
   walk_comes d v (step {d = n} a w h r) =
       any_in (2 * N.arcs) (λ b. ltb 0 (room N f b) && (eqb (to N b) (to N a) && comes n (from N b))) a h
-      (and_from (ltb 0 (room N f a)) _ (lt-ltb 0 _ r) (and_from (eqb (to N a) (to N a)) _ (eq_eqb _ _ refl) (walk_comes n (from N a) w)))
+      (and_from (ltb 0 (room N f a)) _ (lt-ltb 0 _ r) (and_from (eqb (to N a) (to N a)) _ (eq-eqb _ _ refl) (walk_comes n (from N a) w)))
 
   near : (M : ℕ) → Near N f (λ v. first M (λ d. comes d v)) M
   near M = record {

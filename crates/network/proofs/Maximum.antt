@@ -4,7 +4,7 @@
 -- together. That is a flow whose value is greater by one.
 
 use Rattle.std.proofs.Common.{◌≡◌, ℕ, zero, suc, ◌+◌, ◌-◌, ◌*◌, ◌/◌, ◌<◌, ◌≤◌, Bool, true, false, cond, eqb, ◌⊎◌, sym, refl, ap, ◌∙◌, subst, inl, inr, add-one, arith}
-use Rattle.std.proofs.lemmas.Bool.{cond-true, cond-false, eq_eqb, ne_eqb}
+use Rattle.std.proofs.lemmas.Bool.{cond-true, cond-false, eq-eqb, ne_eqb}
 use Rattle.network.specs.Flow.{Net, Sound, Flow, Less, Maximum}
 use Rattle.network.specs.Residual.{way, from, to, room, Walk, Distances}
 use Rattle.network.specs.Residual.Walk.{stay, step}
@@ -32,7 +32,7 @@ module _ (N : Net) (f mark : ℕ → ℕ) (s : Sound N) (l : Distances N f mark)
       let t = walk_trail (from N a) n w m in
       let q : ℕ → ℕ = λ i. cond (eqb i n) a (t.0 i) in
       let same : (j : ℕ) → j < n → q j ≡ t.0 j = λ j g. cond-false (eqb j n) a (t.0 j) (ne_eqb j n (λ y. omega arith)) in
-      let here : q n ≡ a = cond-true (eqb n n) a (t.0 n) (eq_eqb n n refl) in
+      let here : q n ≡ a = cond-true (eqb n n) a (t.0 n) (eq-eqb n n refl) in
       let on : Onward N mark a = omega (arith, m) in (
         q,
         subst (λ i. Trail N f mark q i) (add-one n) (trail_on N f mark t.0 q n a t.1 same here h r on (sym t.2)),
@@ -48,7 +48,7 @@ pushed N f a x h r w =
     let k = a / 2 in
     let i : a / 2 < N.arcs = omega arith in
     let else : (j : ℕ) → (j ≡ a / 2 → ⊥) → plus f a x j ≡ f j = λ j n. cond-false (eqb j (a / 2)) _ (f j) (ne_eqb j (a / 2) n) in
-    let at : plus f a x (a / 2) ≡ way a (f (a / 2) + x) (f (a / 2) - x) = cond-true (eqb (a / 2) (a / 2)) _ _ (eq_eqb (a / 2) (a / 2) refl) in
+    let at : plus f a x (a / 2) ≡ way a (f (a / 2) + x) (f (a / 2) - x) = cond-true (eqb (a / 2) (a / 2)) _ _ (eq-eqb (a / 2) (a / 2) refl) in
     elim (parity a) [
       | inl e ↦ push_even N f (plus f a x) (a / 2) x i else a e
           (omega (arith, ap (room N f) e ∙ room_even N f (a / 2), w (a / 2) i))

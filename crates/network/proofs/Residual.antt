@@ -1,12 +1,12 @@
 -- The residual arcs of an arc: what they leave and enter, and their room.
 
 use Rattle.std.proofs.Common.{◌≡◌, ℕ, zero, suc, ◌+◌, ◌-◌, ◌*◌, ◌/◌, ◌%◌, ◌<◌, ◌≤◌, Bool, true, false, cond, eqb, ◌⊎◌, sym, refl, ap, ◌∙◌, subst, inl, inr, arith}
-use Rattle.std.proofs.lemmas.Bool.{eq_eqb, ne_eqb, cases_eq, cond-true, cond-false}
+use Rattle.std.proofs.lemmas.Bool.{eq-eqb, ne_eqb, cases_eq, cond-true, cond-false}
 use Rattle.network.specs.Flow.{Net, Sound, Flow}
 use Rattle.network.specs.Residual.{way, from, to, room}
 
 pub way_even : (k x y : ℕ) → way (2 * k) x y ≡ x
-way_even k x y = cond-true (eqb ((2 * k) % 2) 0) x y (eq_eqb _ _ (omega arith))
+way_even k x y = cond-true (eqb ((2 * k) % 2) 0) x y (eq-eqb _ _ (omega arith))
 
 pub way_odd : (k x y : ℕ) → way (2 * k + 1) x y ≡ y
 way_odd k x y = cond-false (eqb ((2 * k + 1) % 2) 0) x y (ne_eqb _ _ (λ e. omega arith))

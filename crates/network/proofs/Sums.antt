@@ -1,7 +1,7 @@
 -- Sums. Nearly all follow from three: terms that add up in pairs, terms that are bounded, and terms that differ at one place.
 
 use Rattle.std.proofs.Common.{◌≡◌, ℕ, zero, suc, ◌+◌, ◌-◌, ◌<◌, ◌≤◌, Bool, true, false, cond, eqb, ◌⊎◌, sym, refl, ap, inl, inr, add-one, arith}
-use Rattle.std.proofs.lemmas.Bool.{cases_eq, eq_eqb, ne_eqb, cond-true, cond-false}
+use Rattle.std.proofs.lemmas.Bool.{cases_eq, eq-eqb, ne_eqb, cond-true, cond-false}
 use Rattle.network.specs.Sums.{sum_over, when}
 
 pub sum_four : (m : ℕ) (a b c d : ℕ → ℕ) → ((k : ℕ) → k < m → a k + b k ≡ c k + d k) → sum_over m a + sum_over m b ≡ sum_over m c + sum_over m d
@@ -95,7 +95,7 @@ pub miss : (v w x : ℕ) → (v ≡ w → ⊥) → when (eqb v w) x ≡ 0
 miss v w x n = cond-false (eqb v w) x 0 (ne_eqb v w n)
 
 pub hit : (v w x : ℕ) → v ≡ w → when (eqb v w) x ≡ x
-hit v w x e = cond-true (eqb v w) x 0 (eq_eqb v w e)
+hit v w x e = cond-true (eqb v w) x 0 (eq-eqb v w e)
 
 pub when_add : (b : Bool) (x y : ℕ) → when b (x + y) ≡ when b x + when b y
 when_add true x y = refl

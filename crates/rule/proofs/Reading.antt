@@ -9,7 +9,7 @@
 
 use Rattle.std.proofs.Common.{◌≡◌, ℕ, ◌+◌, ◌-◌, ◌*◌, ◌<◌, ◌≤◌, Bool, true, false, ◌&&◌, eqb, ◌⊎◌, List, [], ◌∷◌, ◌++◌, length, get_or, take, Ok, Err, Result, sym, refl, ap, ◌∙◌, subst, inl, inr, arith, length-take-le, take_all}
 use Rattle.std.proofs.lemmas.List.{take_more, nil_from_length}
-use Rattle.std.proofs.lemmas.Bool.{both_ways, ltb-true, ltb-false, lt-ltb, eqb-true, eqb-false, eq_eqb, and_parts, and_from, cond_both}
+use Rattle.std.proofs.lemmas.Bool.{both_ways, ltb-true, ltb-false, lt-ltb, eqb-true, eqb-false, eq-eqb, and_parts, and_from, cond_both}
 use Rattle.std.proofs.lemmas.Bool.Decides.{nat_tests}
 use Rattle.cause.specs.Numbers.{number as listed}
 use Rattle.grammar.specs.Grammar.{digit, longest, largest, deepest, most_steps, count, step, IsRule, Least}
@@ -197,10 +197,10 @@ module _ (t : List ℕ) (w : Mode) (l : Level) (ls : List Level) (c : List Step)
     step_is = step_same b ∙ ap steps (sym em)
 
     shallow_on : (opens m && eqb (length ls) deepest) ≡ false → Shallow t i
-    shallow_on e g y = both_ways _ e (and_from _ _ (sym open_is ∙ eq_eqb 40 b (sym g)) (eq_eqb (length ls) deepest (omega (arith, open_depth))))
+    shallow_on e g y = both_ways _ e (and_from _ _ (sym open_is ∙ eq-eqb 40 b (sym g)) (eq-eqb (length ls) deepest (omega (arith, open_depth))))
 
     few_on : (steps m && eqb n most_steps) ≡ false → Few t i
-    few_on e g y = both_ways _ e (and_from _ _ (sym step_is ∙ g) (eq_eqb n most_steps (r.tally ∙ y)))
+    few_on e g y = both_ways _ e (and_from _ _ (sym step_is ∙ g) (eq-eqb n most_steps (r.tally ∙ y)))
 
     read_on : Read (next (at w l ls c) m) (take (i + 1) t) (first_digit m i k)
     read_on =
@@ -286,7 +286,7 @@ module _ (t : List ℕ) (w : Mode) (l : Level) (ls : List Level) (c : List Step)
   bad_end a = least_end t passed_all (λ u.
       let x = rule_whole u.0 in
       let y = sym (ap settle (ap (scan start) u.1 ∙ state_all)) ∙ x.is in
-      both_ways _ a (and_from _ _ (go w x.waiting x.said y) (eq_eqb _ 0 (depth_none w (ap depth y)))))
+      both_ways _ a (and_from _ _ (go w x.waiting x.said y) (eq-eqb _ 0 (depth_none w (ap depth y)))))
     where
       go : (v : Mode) (o : Level) (s : List Step) → settle (at v l ls c) ≡ at Done o [] s → ends v ≡ true
       go Want o s q = absurd (let z : ◌≡◌ {A = ℕ} 0 1 = cc in omega arith)

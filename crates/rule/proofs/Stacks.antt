@@ -2,7 +2,7 @@
 
 use Rattle.std.proofs.Common.{◌≡◌, ℕ, ◌+◌, ◌*◌, ◌/◌, ◌^◌, ◌<◌, Bool, true, false, not, ◌&&◌, ◌||◌, List, [], ◌∷◌, ◌++◌, length, get_or, take, refl, ap, ◌∙◌, arith, pow-add}
 use Rattle.std.proofs.lemmas.List.{take_more}
-use Rattle.std.proofs.lemmas.Bool.{eq_eqb, ne_eqb}
+use Rattle.std.proofs.lemmas.Bool.{eq-eqb, ne_eqb}
 use Rattle.grammar.specs.declared.Description.{Description}
 use Rattle.grammar.specs.Grammar.{field, compares}
 use Rattle.rule.specs.declared.steps.Step.{Step}
@@ -10,7 +10,7 @@ use Rattle.rule.specs.declared.steps.Step.TheVariants.{Test, Negate, Both, Eithe
 use Rattle.rule.specs.Stack.{onto, top, act, acts}
 
 pub top_onto : (a : Bool) (p : ℕ) → top (onto a p) ≡ a
-top_onto true p = eq_eqb _ 1 (omega arith)
+top_onto true p = eq-eqb _ 1 (omega arith)
 top_onto false p = ne_eqb _ 1 (omega arith)
 
 pub under_onto : (a : Bool) (p : ℕ) → onto a p / 2 ≡ p

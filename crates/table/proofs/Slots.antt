@@ -1,7 +1,7 @@
 -- The smallest held lot place of an issuer.
 
 use Rattle.std.proofs.Common.{◌≡◌, ℕ, zero, suc, ◌+◌, ◌<◌, ◌≤◌, Bool, true, false, cond, ◌&&◌, eqb, ◌⊎◌, sym, refl, ap, ◌∙◌, inl, inr, add-one, arith}
-use Rattle.std.proofs.lemmas.Bool.{eqb-true, eq_eqb, cases_eq, cases_Bool, cond-true, cond-false, cond_both, both_ways, and_parts, and_from}
+use Rattle.std.proofs.lemmas.Bool.{eqb-true, eq-eqb, cases_eq, cases_Bool, cond-true, cond-false, cond_both, both_ways, and_parts, and_from}
 use Rattle.table.specs.Table.{Situation, of_issuer}
 use Rattle.table.specs.Drawn.{least, slot_of, slot, leads}
 
@@ -59,10 +59,10 @@ module _ (s : Situation) where
   pub slot_held : (l : ℕ) → l < 64 → s.held l ≡ true → (s.held (slot s l) ≡ true) × (s.issuer (slot s l) ≡ s.issuer l)
   slot_held l h y =
       let e = slot_issuer l y in
-      let p = and_parts (s.held (slot_of s (s.issuer l))) _ (slot_of_held (s.issuer l) l h (and_from (s.held l) _ y (eq_eqb _ _ refl))) in
+      let p = and_parts (s.held (slot_of s (s.issuer l))) _ (slot_of_held (s.issuer l) l h (and_from (s.held l) _ y (eq-eqb _ _ refl))) in
       (ap s.held e ∙ p.0, ap s.issuer e ∙ eqb-true _ _ p.1)
 
   pub slot_leads : (l : ℕ) → l < 64 → s.held l ≡ true → leads s (slot s l) ≡ true
   slot_leads l h y =
       let p = slot_held l h y in
-      and_from (s.held (slot s l)) _ p.0 (eq_eqb _ _ (slot_issuer (slot s l) p.0 ∙ ap (slot_of s) p.1 ∙ sym (slot_issuer l y)))
+      and_from (s.held (slot s l)) _ p.0 (eq-eqb _ _ (slot_issuer (slot s l) p.0 ∙ ap (slot_of s) p.1 ∙ sym (slot_issuer l y)))

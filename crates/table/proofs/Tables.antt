@@ -9,7 +9,7 @@
 -- each arc once its pledges are known, so it is the flow of its table. The value is what the lots are given: all pledges.
 
 use Rattle.std.proofs.Common.{◌≡◌, ℕ, ◌+◌, ◌-◌, ◌*◌, ◌<◌, ◌≤◌, Bool, true, false, cond, ◌&&◌, eqb, ◌⊎◌, ◌↔◌, sym, refl, ap, ◌∙◌, subst, inl, inr, arith}
-use Rattle.std.proofs.lemmas.Bool.{eq_eqb, eqb-true, eqb-false, cases_lt, cases_Bool, cond-true, cond-false, both_ways, and_parts, and_from}
+use Rattle.std.proofs.lemmas.Bool.{eq-eqb, eqb-true, eqb-false, cases_lt, cases_Bool, cond-true, cond-false, both_ways, and_parts, and_from}
 use Rattle.network.specs.Sums.{sum_over, when, Agree}
 use Rattle.network.specs.Flow.{Net, Sound, out_of, into, Flow, value, Maximum}
 use Rattle.network.proofs.Sums.{sum_le, sum_none, sum_same, sum_at, sum_term, miss, hit}
@@ -88,7 +88,7 @@ module _ (s : Situation) where
               elim (alive l e k j) [
                 | inl z ↦ omega (arith, when_low (eqb t (slot s l)) (p l e))
                 | inr a ↦ when_only (of_issuer s (s.issuer t) l) _ _ (λ _. when_low _ _) (λ n. miss t (slot s l) (p l e) (λ q.
-                    both_ways _ n (and_from (s.held l) _ a.0 (eq_eqb _ _ (sym (ap s.issuer q ∙ (slot_held s l k a.0).1))))))
+                    both_ways _ n (and_from (s.held l) _ a.0 (eq-eqb _ _ (sym (ap s.issuer q ∙ (slot_held s l k a.0).1))))))
               ]),
         ))
         (λ n. sum_none 64 _ (λ l k.

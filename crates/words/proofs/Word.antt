@@ -2,7 +2,7 @@
 -- a place on is a number whose bit 0 is that place's flag, and whose half is what was read from the next place on.
 
 use Rattle.std.proofs.Common.{◌≡◌, ℕ, zero, suc, ◌+◌, ◌-◌, ◌*◌, ◌/◌, ◌%◌, ◌^◌, ◌<◌, ◌≤◌, Bool, true, false, cond, eqb, List, get_or, sym, refl, ap, ◌∙◌, subst, pow-suc, add-one, one-add, arith, pow_mono}
-use Rattle.std.proofs.lemmas.Bool.{eq_eqb, ne_eqb}
+use Rattle.std.proofs.lemmas.Bool.{eq-eqb, ne_eqb}
 use Rattle.std.proofs.lemmas.Nat.{shr-shr, shr_below}
 use Rattle.words.specs.Word.{bit}
 
@@ -12,7 +12,7 @@ word flags i zero = 0
 word flags i (suc n) = cond (get_or flags i false) 1 0 + 2 * word flags (suc i) n
 
 parity : (b : Bool) (w : ℕ) → eqb ((cond b 1 0 + 2 * w) / 2 ^ 0 % 2) 1 ≡ b
-parity true w = eq_eqb ((1 + 2 * w) / 1 % 2) 1 (omega arith)
+parity true w = eq-eqb ((1 + 2 * w) / 1 % 2) 1 (omega arith)
 parity false w = ne_eqb ((0 + 2 * w) / 1 % 2) 1 (λ e. omega arith)
 
 half : (b : Bool) (w : ℕ) → (cond b 1 0 + 2 * w) / 2 ^ 1 ≡ w

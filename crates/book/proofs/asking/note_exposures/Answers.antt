@@ -9,7 +9,7 @@ loop-e-preserved c =
     let xs = c.args.exposures.now in
     let e = c.loop-e.e in
     let inv = c.loop-e.invariant in
-    let r = c.amount-in-is-open.ensures in (
+    let r = c.amount_in-is_open.ensures in (
       record {
         opened_is = noted_more false c.loop-e.opened (open_at xs) e _ (omega arith) inv.0.opened_is r.0;
         amount_is = noted_more 0 c.loop-e.amount (λ k. amount_of (exposure_at xs k)) e _ (omega arith) inv.0.amount_is r.1;

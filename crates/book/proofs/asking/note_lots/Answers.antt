@@ -9,7 +9,7 @@ loop-l-preserved c =
     let lots = c.args.lots.now in
     let l = c.loop-l.l in
     let inv = c.loop-l.invariant in
-    let e = c.fields-is-held.ensures in (
+    let e = c.fields-is_held.ensures in (
       record {
         held_is = noted_more false c.loop-l.held (held_at lots) l _ (omega arith) inv.0.held_is e.0;
         issuer_is = noted_more 0 c.loop-l.issuer (λ k. issuer_of (lot_at lots k)) l _ (omega arith) inv.0.issuer_is e.1;

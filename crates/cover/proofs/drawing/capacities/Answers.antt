@@ -6,6 +6,6 @@ use Rattle.cover.proofs.drawing.capacities.Goals as goal
 
 pub loop-k-preserved : goal.loop-k-preserved
 loop-k-preserved c = (
-  length-set c.loop-k.capacity c.loop-k.k c.bears-at.result ∙ c.loop-k.invariant.0,
-  fill_more 0 (λ k x. x ≡ cap_of (seen c.args.problem.now) (arc k)) c.loop-k.capacity c.loop-k.k c.bears-at.result (omega arith) c.loop-k.invariant.1 c.bears-at.ensures,
+  length-set c.loop-k.capacity c.loop-k.k c.bears_at.result ∙ c.loop-k.invariant.0,
+  fill_more 0 (λ k x. x ≡ cap_of (seen c.args.problem.now) (arc k)) c.loop-k.capacity c.loop-k.k c.bears_at.result (omega arith) c.loop-k.invariant.1 c.bears_at.ensures,
 )

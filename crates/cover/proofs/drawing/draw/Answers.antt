@@ -5,4 +5,4 @@ use Rattle.cover.specs.Lists.{zeros_at}
 use Rattle.cover.proofs.drawing.draw.Goals as goal
 
 pub rows-requires : goal.rows-requires
-rows-requires c = (λ l h. omega (arith, c.slots-of-slots.ensures l h, slot_low (seen c.args.problem.now) l h), λ t h. zeros_at 64 t)
+rows-requires c = (λ l h. omega (arith, c.slots_of-slots.ensures l h, slot_low (seen c.args.problem.now) l h), λ t h. zeros_at 64 t)

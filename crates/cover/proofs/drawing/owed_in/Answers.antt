@@ -15,8 +15,8 @@ term p e = when (flag p.opened e) (at p.amount e)
 pub loop-e-init : goal.loop-e-init
 loop-e-init c = sym (sum_start (term c.args.problem.now))
 
-pub overflow-add-sum : goal.overflow-add-sum
-overflow-add-sum c = omega (
+pub overflow_add-sum : goal.overflow_add-sum
+overflow_add-sum c = omega (
   arith,
   c.loop-e.invariant,
   c.args.problem.now.small.1 c.loop-e.e,

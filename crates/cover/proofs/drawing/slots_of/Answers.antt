@@ -10,7 +10,7 @@ loop-l-init c = (first_start (seen c.args.problem.now), refl, λ k h. absurd (om
 
 pub loop-l-preserved : goal.loop-l-preserved
 loop-l-preserved c = (
-  c.slot-at.ensures.first,
-  length-set c.loop-l.slots c.loop-l.l c.slot-at.result ∙ c.loop-l.invariant.1,
-  fill_more 0 (λ k x. x ≡ slot (seen c.args.problem.now) k) c.loop-l.slots c.loop-l.l c.slot-at.result (omega arith) c.loop-l.invariant.2 c.slot-at.ensures.slot,
+  c.slot_at.ensures.first,
+  length-set c.loop-l.slots c.loop-l.l c.slot_at.result ∙ c.loop-l.invariant.1,
+  fill_more 0 (λ k x. x ≡ slot (seen c.args.problem.now) k) c.loop-l.slots c.loop-l.l c.slot_at.result (omega arith) c.loop-l.invariant.2 c.slot_at.ensures.slot,
 )

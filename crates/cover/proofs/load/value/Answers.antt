@@ -9,8 +9,8 @@ use Rattle.cover.proofs.load.value.Goals as goal
 pub loop-l-init : goal.loop-l-init
 loop-l-init c = sym (sum_start (at c.args.flow.now))
 
-pub overflow-add-sum : goal.overflow-add-sum
-overflow-add-sum c =
+pub overflow_add-sum : goal.overflow_add-sum
+overflow_add-sum c =
     let small : (k : ℕ) → k < 64 → at c.args.flow.now k < 2 ^ 40 = λ k h. omega (arith, c.requires.within k (omega arith), cap_small c.args.drawn.now k (omega arith)) in
     omega (arith, c.loop-l.invariant, small c.loop-l.l (omega arith), sum_below c.loop-l.l (2 ^ 40) (at c.args.flow.now) (λ k h. omega (arith, small k (omega arith))))
 

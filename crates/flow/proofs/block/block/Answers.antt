@@ -5,8 +5,8 @@ use Rattle.flow.proofs.Blocking.{cursors_none, walk_start}
 use Rattle.flow.proofs.Sending.{Filling, found_trail, found_deep, sent_flows, sent_slack, sent_only, sent_walk, filled}
 use Rattle.flow.proofs.block.block.Goals as goal
 
-pub overflow-cast-stack : goal.overflow-cast-stack
-overflow-cast-stack g c = let L = g.met.G.Network.lawful c.args.network.now in omega (arith, c.source.ensures, L.sound.source_in, L.few_nodes)
+pub overflow_cast-stack : goal.overflow_cast-stack
+overflow_cast-stack g c = let L = g.met.G.Network.lawful c.args.network.now in omega (arith, c.source.ensures, L.sound.source_in, L.few_nodes)
 
 pub descend-d-requires : goal.descend-d-requires
 descend-d-requires g c =

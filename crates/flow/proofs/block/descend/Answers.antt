@@ -4,20 +4,20 @@ use Rattle.flow.specs.ListsLemmas.{put}
 use Rattle.flow.proofs.Blocking.{listed_target, end_in, walk_on, walk_back, walk_none, scan, scan_at, scan_left, scan_deep, scan_on, back_in, back_walk, back_left}
 use Rattle.flow.proofs.block.descend.Goals as goal
 
-pub offset-bounds-cursor-v : goal.offset-bounds-cursor-v
-offset-bounds-cursor-v g c = let E = end_in (g.met.G.Network.lawful c.args.network.now) c.requires.marks c.loop-v.invariant.0 c.loop-v.v c.loop-v.invariant.1 in omega (arith, E)
+pub offset_bounds-cursor-v : goal.offset_bounds-cursor-v
+offset_bounds-cursor-v g c = let E = end_in (g.met.G.Network.lawful c.args.network.now) c.requires.marks c.loop-v.invariant.0 c.loop-v.v c.loop-v.invariant.1 in omega (arith, E)
 
 pub bounds-cursor-v : goal.bounds-cursor-v
 bounds-cursor-v g c = let E = end_in (g.met.G.Network.lawful c.args.network.now) c.requires.marks c.loop-v.invariant.0 c.loop-v.v c.loop-v.invariant.1 in omega (arith, E, c.requires.sizes)
 
-pub first-open-i-requires : goal.first-open-i-requires
-first-open-i-requires g c = let E = end_in (g.met.G.Network.lawful c.args.network.now) c.requires.marks c.loop-v.invariant.0 c.loop-v.v c.loop-v.invariant.1 in record { sizes = (c.requires.sizes.0, c.requires.sizes.1); node = (E.0, E.1, E.2) }
+pub first_open-i-requires : goal.first_open-i-requires
+first_open-i-requires g c = let E = end_in (g.met.G.Network.lawful c.args.network.now) c.requires.marks c.loop-v.invariant.0 c.loop-v.v c.loop-v.invariant.1 in record { sizes = (c.requires.sizes.0, c.requires.sizes.1); node = (E.0, E.1, E.2) }
 
-pub overflow-cast-cursor-in-loop-v : goal.overflow-cast-cursor-in-loop-v
-overflow-cast-cursor-in-loop-v g c = let E = end_in (g.met.G.Network.lawful c.args.network.now) c.requires.marks c.loop-v.invariant.0 c.loop-v.v c.loop-v.invariant.1 in omega (arith, E, c.first-open-i.ensures.high)
+pub overflow_cast-cursor-in-loop-v : goal.overflow_cast-cursor-in-loop-v
+overflow_cast-cursor-in-loop-v g c = let E = end_in (g.met.G.Network.lawful c.args.network.now) c.requires.marks c.loop-v.invariant.0 c.loop-v.v c.loop-v.invariant.1 in omega (arith, E, c.first_open-i.ensures.high)
 
-pub offset-bounds-cursor-v-in-loop-v : goal.offset-bounds-cursor-v-in-loop-v
-offset-bounds-cursor-v-in-loop-v g c = let E = end_in (g.met.G.Network.lawful c.args.network.now) c.requires.marks c.loop-v.invariant.0 c.loop-v.v c.loop-v.invariant.1 in omega (arith, E)
+pub offset_bounds-cursor-v-in-loop-v : goal.offset_bounds-cursor-v-in-loop-v
+offset_bounds-cursor-v-in-loop-v g c = let E = end_in (g.met.G.Network.lawful c.args.network.now) c.requires.marks c.loop-v.invariant.0 c.loop-v.v c.loop-v.invariant.1 in omega (arith, E)
 
 pub bounds-cursor-v-in-loop-v : goal.bounds-cursor-v-in-loop-v
 bounds-cursor-v-in-loop-v g c = let E = end_in (g.met.G.Network.lawful c.args.network.now) c.requires.marks c.loop-v.invariant.0 c.loop-v.v c.loop-v.invariant.1 in omega (arith, E, c.requires.sizes)
@@ -28,30 +28,30 @@ degree-requires g c = let E = end_in (g.met.G.Network.lawful c.args.network.now)
 pub leaving-requires : goal.leaving-requires
 leaving-requires g c = let E = end_in (g.met.G.Network.lawful c.args.network.now) c.requires.marks c.loop-v.invariant.0 c.loop-v.v c.loop-v.invariant.1 in (E.0, omega (arith, c.degree.ensures, c.if-i-degree.true))
 
-pub overflow-cast-path : goal.overflow-cast-path
-overflow-cast-path g c = let E = end_in (g.met.G.Network.lawful c.args.network.now) c.requires.marks c.loop-v.invariant.0 c.loop-v.v c.loop-v.invariant.1 in
+pub overflow_cast-path : goal.overflow_cast-path
+overflow_cast-path g c = let E = end_in (g.met.G.Network.lawful c.args.network.now) c.requires.marks c.loop-v.invariant.0 c.loop-v.v c.loop-v.invariant.1 in
     let L = g.met.G.Network.lawful c.args.network.now in
-    omega (arith, c.leaving.ensures, L.few_arcs, L.listed.known c.loop-v.v c.first-open-i.result E.0 (omega (arith, c.degree.ensures, c.if-i-degree.true)))
+    omega (arith, c.leaving.ensures, L.few_arcs, L.listed.known c.loop-v.v c.first_open-i.result E.0 (omega (arith, c.degree.ensures, c.if-i-degree.true)))
 
 pub target-v-requires : goal.target-v-requires
 target-v-requires g c = let E = end_in (g.met.G.Network.lawful c.args.network.now) c.requires.marks c.loop-v.invariant.0 c.loop-v.v c.loop-v.invariant.1 in (E.0, omega (arith, c.degree.ensures, c.if-i-degree.true))
 
-pub overflow-cast-stack : goal.overflow-cast-stack
-overflow-cast-stack g c = let E = end_in (g.met.G.Network.lawful c.args.network.now) c.requires.marks c.loop-v.invariant.0 c.loop-v.v c.loop-v.invariant.1 in
+pub overflow_cast-stack : goal.overflow_cast-stack
+overflow_cast-stack g c = let E = end_in (g.met.G.Network.lawful c.args.network.now) c.requires.marks c.loop-v.invariant.0 c.loop-v.v c.loop-v.invariant.1 in
     let h = listed_target (g.met.G.Network.lawful c.args.network.now) E.0 c.degree.ensures c.if-i-degree.true c.target-v.ensures in
     omega (arith, h)
 
 pub bounds-stack-d-then-i-degree : goal.bounds-stack-d-then-i-degree
-bounds-stack-d-then-i-degree g c = let h = scan_deep (g.met.G.Network.lawful c.args.network.now) c.requires.marks c.loop-v.cursor c.loop-v.invariant c.first-open-i.ensures (omega (arith, c.requires.sizes)) (omega (arith, c.degree.ensures, c.if-i-degree.true)) in omega (arith, h, c.requires.sizes)
+bounds-stack-d-then-i-degree g c = let h = scan_deep (g.met.G.Network.lawful c.args.network.now) c.requires.marks c.loop-v.cursor c.loop-v.invariant c.first_open-i.ensures (omega (arith, c.requires.sizes)) (omega (arith, c.degree.ensures, c.if-i-degree.true)) in omega (arith, h, c.requires.sizes)
 
 pub loop-v-smaller-then-i-degree : goal.loop-v-smaller-then-i-degree
-loop-v-smaller-then-i-degree g c = let E = end_in (g.met.G.Network.lawful c.args.network.now) c.requires.marks c.loop-v.invariant.0 c.loop-v.v c.loop-v.invariant.1 in let l = scan_left (g.met.G.Network.lawful c.args.network.now) c.requires.marks c.loop-v.cursor c.loop-v.invariant c.first-open-i.ensures (omega (arith, c.requires.sizes)) in omega (arith, E, l)
+loop-v-smaller-then-i-degree g c = let E = end_in (g.met.G.Network.lawful c.args.network.now) c.requires.marks c.loop-v.invariant.0 c.loop-v.v c.loop-v.invariant.1 in let l = scan_left (g.met.G.Network.lawful c.args.network.now) c.requires.marks c.loop-v.cursor c.loop-v.invariant c.first_open-i.ensures (omega (arith, c.requires.sizes)) in omega (arith, E, l)
 
 pub loop-v-preserved-then-i-degree : goal.loop-v-preserved-then-i-degree
 loop-v-preserved-then-i-degree g c =
-    let h = scan_deep (g.met.G.Network.lawful c.args.network.now) c.requires.marks c.loop-v.cursor c.loop-v.invariant c.first-open-i.ensures (omega (arith, c.requires.sizes)) (omega (arith, c.degree.ensures, c.if-i-degree.true)) in
+    let h = scan_deep (g.met.G.Network.lawful c.args.network.now) c.requires.marks c.loop-v.cursor c.loop-v.invariant c.first_open-i.ensures (omega (arith, c.requires.sizes)) (omega (arith, c.degree.ensures, c.if-i-degree.true)) in
     let ms = put c.loop-v.stack (c.loop-v.d + 1) c.target-v.result (omega (arith, h, c.requires.sizes)) in (
-      scan_on (g.met.G.Network.lawful c.args.network.now) c.requires.marks c.loop-v.cursor c.loop-v.invariant c.first-open-i.ensures (omega (arith, c.requires.sizes)) _ _ c.leaving.result c.target-v.result (omega (arith, c.degree.ensures, c.if-i-degree.true)) c.leaving.ensures c.target-v.ensures
+      scan_on (g.met.G.Network.lawful c.args.network.now) c.requires.marks c.loop-v.cursor c.loop-v.invariant c.first_open-i.ensures (omega (arith, c.requires.sizes)) _ _ c.leaving.result c.target-v.result (omega (arith, c.degree.ensures, c.if-i-degree.true)) c.leaving.ensures c.target-v.ensures
           (put c.loop-v.path c.loop-v.d c.leaving.result (omega (arith, h, c.requires.sizes))) ms,
       sym ms.0,
     )
@@ -60,29 +60,29 @@ pub returns-then-d-eq0 : goal.returns-then-d-eq0
 returns-then-d-eq0 g c =
     record {
       found = λ h. absurd (omega arith);
-      none = λ _. walk_none (g.met.G.Network.lawful c.args.network.now) c.requires.marks (scan (g.met.G.Network.lawful c.args.network.now) c.requires.marks c.loop-v.cursor c.loop-v.invariant c.first-open-i.ensures (omega (arith, c.requires.sizes))) c.loop-v.v c.loop-v.invariant.1 c.if-d-eq0.true (λ e. c.loop-v-test.true (e ∙ sym c.sink-t.ensures))
-          (omega (arith, scan_at (g.met.G.Network.lawful c.args.network.now) c.requires.marks c.loop-v.cursor c.loop-v.invariant c.first-open-i.ensures (omega (arith, c.requires.sizes)), c.degree.ensures, c.if-i-degree.false));
+      none = λ _. walk_none (g.met.G.Network.lawful c.args.network.now) c.requires.marks (scan (g.met.G.Network.lawful c.args.network.now) c.requires.marks c.loop-v.cursor c.loop-v.invariant c.first_open-i.ensures (omega (arith, c.requires.sizes))) c.loop-v.v c.loop-v.invariant.1 c.if-d-eq0.true (λ e. c.loop-v-test.true (e ∙ sym c.sink-t.ensures))
+          (omega (arith, scan_at (g.met.G.Network.lawful c.args.network.now) c.requires.marks c.loop-v.cursor c.loop-v.invariant c.first_open-i.ensures (omega (arith, c.requires.sizes)), c.degree.ensures, c.if-i-degree.false));
     }
 
 pub bounds-cursor-v-else-d-eq0 : goal.bounds-cursor-v-else-d-eq0
-bounds-cursor-v-else-d-eq0 g c = let h = back_in (g.met.G.Network.lawful c.args.network.now) c.requires.marks c.loop-v.cursor c.loop-v.invariant c.first-open-i.ensures (omega (arith, c.requires.sizes)) (omega (arith, c.if-d-eq0.false)) in omega (arith, h)
+bounds-cursor-v-else-d-eq0 g c = let h = back_in (g.met.G.Network.lawful c.args.network.now) c.requires.marks c.loop-v.cursor c.loop-v.invariant c.first_open-i.ensures (omega (arith, c.requires.sizes)) (omega (arith, c.if-d-eq0.false)) in omega (arith, h)
 
-pub overflow-add-cursor : goal.overflow-add-cursor
-overflow-add-cursor g c = let h = back_in (g.met.G.Network.lawful c.args.network.now) c.requires.marks c.loop-v.cursor c.loop-v.invariant c.first-open-i.ensures (omega (arith, c.requires.sizes)) (omega (arith, c.if-d-eq0.false)) in omega (arith, h)
+pub overflow_add-cursor : goal.overflow_add-cursor
+overflow_add-cursor g c = let h = back_in (g.met.G.Network.lawful c.args.network.now) c.requires.marks c.loop-v.cursor c.loop-v.invariant c.first_open-i.ensures (omega (arith, c.requires.sizes)) (omega (arith, c.if-d-eq0.false)) in omega (arith, h)
 
 pub bounds-cursor-v-else-d-eq0-2 : goal.bounds-cursor-v-else-d-eq0-2
-bounds-cursor-v-else-d-eq0-2 g c = let h = back_in (g.met.G.Network.lawful c.args.network.now) c.requires.marks c.loop-v.cursor c.loop-v.invariant c.first-open-i.ensures (omega (arith, c.requires.sizes)) (omega (arith, c.if-d-eq0.false)) in omega (arith, h)
+bounds-cursor-v-else-d-eq0-2 g c = let h = back_in (g.met.G.Network.lawful c.args.network.now) c.requires.marks c.loop-v.cursor c.loop-v.invariant c.first_open-i.ensures (omega (arith, c.requires.sizes)) (omega (arith, c.if-d-eq0.false)) in omega (arith, h)
 
 pub loop-v-smaller : goal.loop-v-smaller
 loop-v-smaller g c =
-    let b = back_left (g.met.G.Network.lawful c.args.network.now) c.requires.marks c.loop-v.cursor c.loop-v.invariant c.first-open-i.ensures (omega (arith, c.requires.sizes)) (omega (arith, c.if-d-eq0.false)) in
-    let l = scan_left (g.met.G.Network.lawful c.args.network.now) c.requires.marks c.loop-v.cursor c.loop-v.invariant c.first-open-i.ensures (omega (arith, c.requires.sizes)) in
+    let b = back_left (g.met.G.Network.lawful c.args.network.now) c.requires.marks c.loop-v.cursor c.loop-v.invariant c.first_open-i.ensures (omega (arith, c.requires.sizes)) (omega (arith, c.if-d-eq0.false)) in
+    let l = scan_left (g.met.G.Network.lawful c.args.network.now) c.requires.marks c.loop-v.cursor c.loop-v.invariant c.first_open-i.ensures (omega (arith, c.requires.sizes)) in
     let E = end_in (g.met.G.Network.lawful c.args.network.now) c.requires.marks c.loop-v.invariant.0 c.loop-v.v c.loop-v.invariant.1 in
     omega (arith, E, b, l, c.if-d-eq0.false)
 
 pub loop-v-preserved : goal.loop-v-preserved
 loop-v-preserved g c =
-    (back_walk (g.met.G.Network.lawful c.args.network.now) c.requires.marks c.loop-v.cursor c.loop-v.invariant c.first-open-i.ensures (omega (arith, c.requires.sizes)) (omega (arith, c.if-d-eq0.false)) (λ e. c.loop-v-test.true (e ∙ sym c.sink-t.ensures)) (omega (arith, c.degree.ensures, c.if-i-degree.false)), refl)
+    (back_walk (g.met.G.Network.lawful c.args.network.now) c.requires.marks c.loop-v.cursor c.loop-v.invariant c.first_open-i.ensures (omega (arith, c.requires.sizes)) (omega (arith, c.if-d-eq0.false)) (λ e. c.loop-v-test.true (e ∙ sym c.sink-t.ensures)) (omega (arith, c.degree.ensures, c.if-i-degree.false)), refl)
 
 pub returns : goal.returns
 returns g c = record {

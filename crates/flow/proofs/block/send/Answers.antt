@@ -7,8 +7,8 @@ use Rattle.flow.proofs.block.send.Goals as goal
 pub loop-i-init : goal.loop-i-init
 loop-i-init g c = send_start _ _ _ _ _ _ c.requires.first c.requires.trail c.requires.within
 
-pub send-one-requires : goal.send-one-requires
-send-one-requires g c =
+pub send_one-requires : goal.send_one-requires
+send_one-requires g c =
     let l = c.loop-i-test.true in (
       (omega (arith, c.requires.sizes, c.loop-i.auto.flow), c.requires.trail.known c.loop-i.i l),
       omega (arith, c.requires.fits c.loop-i.i l, c.loop-i.invariant.ahead c.loop-i.i (omega arith) l),
@@ -16,7 +16,7 @@ send-one-requires g c =
     )
 
 pub loop-i-preserved : goal.loop-i-preserved
-loop-i-preserved g c = send_more _ _ _ _ _ _ c.requires.first c.requires.trail _ _ _ c.loop-i-test.true c.loop-i.invariant c.send-one.ensures
+loop-i-preserved g c = send_more _ _ _ _ _ _ c.requires.first c.requires.trail _ _ _ c.loop-i-test.true c.loop-i.invariant c.send_one.ensures
 
 pub returns : goal.returns
 returns g c =

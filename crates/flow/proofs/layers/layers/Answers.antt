@@ -13,8 +13,8 @@ loop-done-init g c =
     (put_at c.fill.new.self c.source-s.result 1 _ e (omega (arith, L.sound.source_in, c.requires.sizes)))
     ((put c.args.queue.now 0 c.source-s.result (omega (arith, L.sound.source_in, c.requires.sizes))).0 ∙ e)
 
-pub overflow-add-done : goal.overflow-add-done
-overflow-add-done g c = let h = bfs_hand c.loop-done.invariant c.loop-done-test.true in omega (arith, h, (g.met.G.Network.lawful c.args.network.now).few_nodes)
+pub overflow_add-done : goal.overflow_add-done
+overflow_add-done g c = let h = bfs_hand c.loop-done.invariant c.loop-done-test.true in omega (arith, h, (g.met.G.Network.lawful c.args.network.now).few_nodes)
 
 pub loop-done-smaller : goal.loop-done-smaller
 loop-done-smaller g c = let h = bfs_hand c.loop-done.invariant c.loop-done-test.true in omega (arith, h)

@@ -10,8 +10,8 @@ loop-flow-init g c = running_none c.requires.flows c.layers.ensures
 pub returns : goal.returns
 returns g c = running_end (g.met.G.Network.lawful c.args.network.now).sound c.loop-flow.invariant (omega (arith, ltb-false 0 _ (sym c.reached.ensures ∙ c.loop-flow-test.false), ap (at c.loop-flow.mark) c.sink-t.ensures))
 
-pub overflow-add-rounds : goal.overflow-add-rounds
-overflow-add-rounds g c = let L = g.met.G.Network.lawful c.args.network.now in omega (arith, running_few L.sound c.loop-flow.invariant, L.few_nodes)
+pub overflow_add-rounds : goal.overflow_add-rounds
+overflow_add-rounds g c = let L = g.met.G.Network.lawful c.args.network.now in omega (arith, running_few L.sound c.loop-flow.invariant, L.few_nodes)
 
 pub loop-flow-smaller : goal.loop-flow-smaller
 loop-flow-smaller g c = omega (arith, running_few (g.met.G.Network.lawful c.args.network.now).sound c.loop-flow.invariant)

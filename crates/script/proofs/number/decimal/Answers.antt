@@ -7,5 +7,5 @@ returns-then-signed c = λ n d. no_plus 10 c.args.word.now (omega arith) (true-e
 
 pub returns : goal.returns
 returns c =
-    decimal_read c.args.word.now c.from-str-radix.result _ c.ok.ensures.value c.from-str-radix.ensures.value
+    decimal_read c.args.word.now c.from_str_radix.result _ c.ok.ensures.value c.from_str_radix.ensures.value
     (false-eqb _ 43 c.if-signed.ensures)

@@ -6,6 +6,6 @@ use Rattle.script.proofs.read.add.Goals as goal
 
 pub returns : goal.returns
 returns c =
-    let place = c.in-ok-place.ensures in
-    let lot = described {rest = c.terms.new.words.rest.now} c.in-ok-terms.ensures c.in-ok-end.ensures in
+    let place = c.in_ok-place.ensures in
+    let lot = described {rest = c.terms.new.words.rest.now} c.in_ok-terms.ensures c.in_ok-end.ensures in
     record { words = place.0 ∷ lot.0; worded = more place.1 lot.1; says = add place.2 lot.2 }

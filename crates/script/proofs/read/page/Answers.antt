@@ -5,6 +5,6 @@ use Rattle.script.proofs.read.page.Goals as goal
 
 pub returns : goal.returns
 returns c =
-    let class = c.in-ok-class.ensures in
-    let bytes = c.in-ok-bytes.ensures in
+    let class = c.in_ok-class.ensures in
+    let bytes = c.in_ok-bytes.ensures in
     record { words = class.0 ∷ bytes.0; worded = more class.1 bytes.1; says = page class.2 bytes.2 }

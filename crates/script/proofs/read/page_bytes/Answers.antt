@@ -11,9 +11,9 @@ loop-word-smaller c = shorter c.in-Some.ensures
 
 pub loop-word-preserved : goal.loop-word-preserved
 loop-word-preserved c =
-    let pushed = chosen _ _ _ _ c.push.ensures.items (ap is_ok c.in-ok-push.was) in
+    let pushed = chosen _ _ _ _ c.push.ensures.items (ap is_ok c.in_ok-push.was) in
     subst (λ bs. Sofar c.args.words.now.rest.now bs c.next.new.self.rest.now) (sym pushed)
-    (one_more c.loop-word.invariant c.in-Some.ensures c.in-Some-hex-byte.ensures)
+    (one_more c.loop-word.invariant c.in-Some.ensures c.in-Some-hex_byte.ensures)
 
 pub returns : goal.returns
-returns c = done c.loop-word.invariant c.in-default.ensures.0
+returns c = done c.loop-word.invariant c.in_default.ensures.0

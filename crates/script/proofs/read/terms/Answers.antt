@@ -7,9 +7,9 @@ returns c =
       at_rating = _;
       at_months = _;
       at_value = _;
-      issuer = c.in-ok-issuer.ensures;
-      class = c.in-ok-class.ensures;
-      rating = c.in-ok-rating.ensures;
-      months = c.in-ok-months.ensures;
-      value = c.in-ok-market.ensures;
+      issuer = c.in_ok-issuer.ensures;
+      class = c.in_ok-class.ensures;
+      rating = c.in_ok-rating.ensures;
+      months = c.in_ok-months.ensures;
+      value = c.in_ok-market.ensures;
     }

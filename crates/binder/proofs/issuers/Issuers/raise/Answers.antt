@@ -2,8 +2,8 @@ use Rattle.std.proofs.Common.{◌≡◌, ℕ, ◌+◌, ◌<◌, true, length, ap
 use Rattle.binder.proofs.Flags.{one_more, raised}
 use Rattle.binder.proofs.issuers.Issuers.raise.Goals as goal
 
-pub invariant-of-self : goal.invariant-of-self
-invariant-of-self c =
+pub invariant_of-self : goal.invariant_of-self
+invariant_of-self c =
     let fs = c.args.self.now.flags in
     let i = c.args.issuer in
     let h : i < length fs = omega (arith, c.args.self.now.full) in

@@ -5,14 +5,14 @@ use Rattle.book.proofs.Lawfuls.{grounded, low}
 use Rattle.book.proofs.Coverings.{lawful_after, covers_then, short_else}
 use Rattle.book.proofs.book.Book.cover.Goals as goal
 
-pub invariant-of-self : goal.invariant-of-self
-invariant-of-self g c =
+pub invariant_of-self : goal.invariant_of-self
+invariant_of-self g c =
     let b = c.args.self.now in
     let m = g.B.Binder.meaning c.args.binder.now in
     let t = c.allocate-answer.new.table in
     let size : length t ≡ 1024 = omega arith in
     let law = lawful_after m (view b) (seen c.problem-problem.result) c.problem-problem.ensures c.args.record.now _ t
-    c.allocate-answer.result (sym c.is-ok.ensures.value ∙ c.if-is-ok.true) c.allocate-answer.ensures in (
+    c.allocate-answer.result (sym c.is_ok.ensures.value ∙ c.if-is_ok.true) c.allocate-answer.ensures in (
       b.places,
       (
         (b.tables.0, size),
@@ -38,16 +38,16 @@ invariant-of-self g c =
       ),
     )
 
-pub returns-then-is-ok : goal.returns-then-is-ok
-returns-then-is-ok g c =
+pub returns-then-is_ok : goal.returns-then-is_ok
+returns-then-is_ok g c =
     let m = g.B.Binder.meaning c.args.binder.now in
     let t = c.allocate-answer.new.table in
     let size : length t ≡ 1024 = omega arith in
     covers_then m (view c.args.self.now) (seen c.problem-problem.result) c.problem-problem.ensures c.args.record.now _ t
-    c.allocate-answer.result (sym c.is-ok.ensures.value ∙ c.if-is-ok.true) c.allocate-answer.ensures size
+    c.allocate-answer.result (sym c.is_ok.ensures.value ∙ c.if-is_ok.true) c.allocate-answer.ensures size
 
-pub returns-else-is-ok : goal.returns-else-is-ok
-returns-else-is-ok g c =
+pub returns-else-is_ok : goal.returns-else-is_ok
+returns-else-is_ok g c =
     let m = g.B.Binder.meaning c.args.binder.now in
     short_else m (view c.args.self.now) (seen c.problem-problem.result) c.problem-problem.ensures c.args.record.now _ c.allocate-answer.new.table
-    c.allocate-answer.result (sym c.is-ok.ensures.value ∙ c.if-is-ok.false) c.allocate-answer.ensures
+    c.allocate-answer.result (sym c.is_ok.ensures.value ∙ c.if-is_ok.false) c.allocate-answer.ensures

@@ -2,7 +2,7 @@ use Rattle.std.proofs.Common.{replicate, None, refl}
 use Rattle.book.proofs.Empty.{zeros_low, zeros_grounded, none_worth, none_amount}
 use Rattle.book.proofs.book.Book.new.Goals as goal
 
-pub invariant-of-result : goal.invariant-of-result
-invariant-of-result c =
+pub invariant_of-result : goal.invariant_of-result
+invariant_of-result c =
     let ground = zeros_grounded (replicate 64 None) (replicate 16 None) 1024 in
     ((refl, refl), ((refl, refl), (ground, (ground, (zeros_low 1024, (zeros_low 1024, (none_worth 64, (none_amount 16, ((λ h. refl), tt)))))))))

@@ -9,18 +9,18 @@ use Rattle.book.proofs.Places.{low_set, lot_filled}
 use Rattle.book.proofs.Pricing.{worth_low, priced_step, unpriced_step}
 use Rattle.book.proofs.book.Book.put_lot.Goals as goal
 
-pub returns-in-err-lot : goal.returns-in-err-lot
-returns-in-err-lot c =
-    let q = err_from_is_err_and c.from-residual.result c.from-residual.ensures.1 in
+pub returns-in_err-lot : goal.returns-in_err-lot
+returns-in_err-lot c =
+    let q = err_from_is_err_and c.from_residual.result c.from_residual.ensures.1 in
     let place : ltb 63 c.args.place ≡ false = (let l = c.requires.place in grind (arith, nat_tests)) in
     rw (q.1, q.2) (λ m. unpriced_step m (view c.args.self.now) c.args.place c.args.terms.now c.args.card.now place c.requires.idle
-    c.requires.empty c.in-err-lot.ensures)
+    c.requires.empty c.in_err-lot.ensures)
 
-pub invariant-of-self : goal.invariant-of-self
-invariant-of-self c =
+pub invariant_of-self : goal.invariant_of-self
+invariant_of-self c =
     let b = c.args.self.now in
     let p = c.args.place in
-    let l = c.in-ok-lot.lot in (
+    let l = c.in_ok-lot.lot in (
       (length-set b.lots p (Some l) ∙ b.places.0, b.places.1),
       (
         b.tables,
@@ -33,7 +33,7 @@ invariant-of-self c =
               (
                 b.low_working,
                 (
-                  low_set worth_of b.lots p (Some l) 1099511627776 (worth_low (nth_points c.args.card.now.curves) c.args.terms.now l c.in-ok-lot.ensures) b.worths,
+                  low_set worth_of b.lots p (Some l) 1099511627776 (worth_low (nth_points c.args.card.now.curves) c.args.terms.now l c.in_ok-lot.ensures) b.worths,
                   (b.amounts, (b.idle, tt)),
                 ),
               ),
@@ -47,4 +47,4 @@ pub returns : goal.returns
 returns c =
     let place : ltb 63 c.args.place ≡ false = (let l = c.requires.place in grind (arith, nat_tests)) in
     λ m. priced_step m (view c.args.self.now) c.args.place c.args.terms.now c.args.card.now place c.requires.idle
-    c.requires.empty c.in-ok-lot.lot c.in-ok-lot.ensures
+    c.requires.empty c.in_ok-lot.lot c.in_ok-lot.ensures

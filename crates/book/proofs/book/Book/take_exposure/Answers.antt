@@ -5,21 +5,21 @@ use Rattle.book.proofs.Places.{low_set, zeroed_length, zeroed_low, exposure_empt
 use Rattle.book.proofs.Few.{few_closings}
 use Rattle.book.proofs.book.Book.take_exposure.Goals as goal
 
-pub write-closings-count-requires : goal.write-closings-count-requires
-write-closings-count-requires c =
+pub write_closings-count-requires : goal.write_closings-count-requires
+write_closings-count-requires c =
     let b = c.args.self.now in
     let few = few_closings b.lots b.exposures b.standing b.grounded c.args.place (omega arith) in
     record { low = (b.low, omega arith); room = omega (arith, few, c.requires.room) }
 
-pub invariant-of-self : goal.invariant-of-self
-invariant-of-self c =
+pub invariant_of-self : goal.invariant_of-self
+invariant_of-self c =
     let b = c.args.self.now in
     let e = c.args.place in
     let within : e < 16 = omega arith in
-    let st = c.zero-column.new.pledges in
-    let wt = c.zero-column-2.new.pledges in
-    let is = c.zero-column.ensures in
-    let is' = c.zero-column-2.ensures in (
+    let st = c.zero_column.new.pledges in
+    let wt = c.zero_column-2.new.pledges in
+    let is = c.zero_column.ensures in
+    let is' = c.zero_column-2.ensures in (
       (b.places.0, length-set b.exposures e None ∙ b.places.1),
       (
         (ap length is ∙ (zeroed_length b.standing e 64 ∙ b.tables.0), ap length is' ∙ (zeroed_length b.working e 64 ∙ b.tables.1)),

@@ -5,8 +5,8 @@ use Rattle.calls.specs.Situation.{worth_of}
 use Rattle.book.proofs.Places.{low_set, lot_emptied}
 use Rattle.book.proofs.book.Book.take_lot.Goals as goal
 
-pub invariant-of-self : goal.invariant-of-self
-invariant-of-self c =
+pub invariant_of-self : goal.invariant_of-self
+invariant_of-self c =
     let b = c.args.self.now in
     let p = c.args.place in
     let free : ltb 0 (sum_over 16 (λ e. table b.standing p e)) ≡ false = c.requires.free in

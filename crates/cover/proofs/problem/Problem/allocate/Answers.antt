@@ -16,11 +16,11 @@ use Rattle.cover.proofs.problem.Problem.allocate.Goals.{then-given-owed, else-gi
 same : (c : Joined-given-owed) → pictured c.begin-position.result.drawn ≡ seen c.args.self.now
 same c = ap pictured c.begin-position.ensures.drawn ∙ ap seen c.draw.ensures
 
-run : (c : Joined-given-owed) → Run (seen c.args.self.now) (at c.begin-position.result.first) (at c.solve-rounds.new.flow) (at c.solve-rounds.new.mark) c.solve-rounds.result c.value-given.result c.owed-in-owed.result
+run : (c : Joined-given-owed) → Run (seen c.args.self.now) (at c.begin-position.result.first) (at c.solve-rounds.new.flow) (at c.solve-rounds.new.mark) c.solve-rounds.result c.value-given.result c.owed_in-owed.result
 run c = record {
   solved = subst (λ s. Solved (net_of s) (at c.begin-position.result.first) (at c.solve-rounds.new.flow) (at c.solve-rounds.new.mark) c.solve-rounds.result) (same c) c.solve-rounds.ensures;
   sum = c.value-given.ensures;
-  owing = c.owed-in-owed.ensures;
+  owing = c.owed_in-owed.ensures;
 }
 
 pub answer-requires : goal.answer-requires
@@ -28,7 +28,7 @@ answer-requires c = given_low (run c)
 
 -- the answer in either case
 answered : (c : Joined-given-owed) → Allocated (seen c.args.self.now) c.args.table.now c.if-given-owed.table c.args.shortage.now c.if-given-owed.shortage
-    (cond (eqb c.value-given.result c.owed-in-owed.result) (Ok c.solve-rounds.result) (Err (c.owed-in-owed.result - c.value-given.result)))
+    (cond (eqb c.value-given.result c.owed_in-owed.result) (Ok c.solve-rounds.result) (Err (c.owed_in-owed.result - c.value-given.result)))
 answered c =
     elim c.if-given-owed.branch [
       | then-given-owed w ↦

@@ -5,10 +5,10 @@ use Rattle.flow.specs.Stored.{Joins, with_arc, listed_net}
 use Rattle.flow.specs.StoredLaws.{joins_more, sums_more, same_more}
 use Rattle.flow.proofs.stored.ArcList.add_arc.Goals as goal
 
-pub invariant-of-self : goal.invariant-of-self
-invariant-of-self c =
-    let h = c.in-ok-total.ensures in
-    let e = c.put-ends.ensures in (
+pub invariant_of-self : goal.invariant_of-self
+invariant_of-self c =
+    let h = c.in_ok-total.ensures in
+    let e = c.put_ends.ensures in (
       (ap length e ∙ simp length-set c.args.self.now.sizes.0, simp length-set c.args.self.now.sizes.1, c.args.self.now.sizes.2, omega (arith, h)),
       (
         c.args.self.now.inner,
@@ -24,5 +24,5 @@ invariant-of-self c =
 
 pub returns : goal.returns
 returns c =
-    let h = c.in-ok-total.ensures in
-    (h.0, refl, subst (λ xs. Same (with_arc (listed_net c.args.self.now.nodes c.args.self.now.arcs c.args.self.now.source c.args.self.now.sink c.args.self.now.ends c.args.self.now.caps) c.args.tail c.args.head c.args.capacity) (listed_net c.args.self.now.nodes (c.args.self.now.arcs + 1) c.args.self.now.source c.args.self.now.sink xs (set c.args.self.now.caps c.args.self.now.arcs c.args.capacity))) (sym c.put-ends.ensures) (same_more c.args.self.now.nodes c.args.self.now.source c.args.self.now.sink c.args.self.now.ends c.args.self.now.caps c.args.self.now.arcs c.args.tail c.args.head c.args.capacity (omega (arith, h, c.args.self.now.sizes)) (omega (arith, h, c.args.self.now.sizes))), h.4)
+    let h = c.in_ok-total.ensures in
+    (h.0, refl, subst (λ xs. Same (with_arc (listed_net c.args.self.now.nodes c.args.self.now.arcs c.args.self.now.source c.args.self.now.sink c.args.self.now.ends c.args.self.now.caps) c.args.tail c.args.head c.args.capacity) (listed_net c.args.self.now.nodes (c.args.self.now.arcs + 1) c.args.self.now.source c.args.self.now.sink xs (set c.args.self.now.caps c.args.self.now.arcs c.args.capacity))) (sym c.put_ends.ensures) (same_more c.args.self.now.nodes c.args.self.now.source c.args.self.now.sink c.args.self.now.ends c.args.self.now.caps c.args.self.now.arcs c.args.tail c.args.head c.args.capacity (omega (arith, h, c.args.self.now.sizes)) (omega (arith, h, c.args.self.now.sizes))), h.4)

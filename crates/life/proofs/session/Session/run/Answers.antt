@@ -5,7 +5,7 @@ use Rattle.life.proofs.session.Session.run.Goals as goal
 
 pub returns : goal.returns
 returns g c =
-    let e = c.carry-out-all-slip.ensures in
+    let e = c.carry_out_all-slip.ensures in
     record {
       same = (refl, refl);
       played = e.played;

@@ -13,18 +13,18 @@ pub loop-i-preserved : goal.loop-i-preserved
 loop-i-preserved g c =
     let inv = c.loop-i.invariant in
     let journal = c.loop-i.journal in
-    let rest = c.carry-out-outcome.new.list in
+    let rest = c.carry_out-outcome.new.list in
     let used = c.loop-i.used in
-    let outcome = c.carry-out-outcome.result.0 in
+    let outcome = c.carry_out-outcome.result.0 in
     let n = count_of outcome in
-    let e = c.carry-out-outcome.ensures in
-    let room : n ≤ length rest = omega (arith, e.room, c.carry-out-outcome.auto.list) in
+    let e = c.carry_out-outcome.ensures in
+    let room : n ≤ length rest = omega (arith, e.room, c.carry_out-outcome.auto.list) in
     let size = length journal - used in
     let low = omega_min (length c.args.orders.now) (length c.args.outcomes.now) c.loop-i.i (omega (arith, c.min-n.ensures)) in
     rw c.count-used.ensures (
       room_left journal rest used n size inv.0 room,
       e.matched,
-      play_more journal rest used n size inv.0 room (g.B.Binder.meaning c.args.binder.now) c.args.card.now (view c.args.book.now) (view c.loop-i.book) (view c.carry-out-outcome.new.book)
+      play_more journal rest used n size inv.0 room (g.B.Binder.meaning c.args.binder.now) c.args.card.now (view c.args.book.now) (view c.loop-i.book) (view c.carry_out-outcome.new.book)
           c.args.orders.now c.loop-i.outcomes c.loop-i.i (Add 0 (record { issuer = 0; class = 0; rating = 0; months = 0; market = 0 })) outcome low.0 (omega (arith, low.1, c.loop-i.auto.outcomes)) inv.2 e.turn,
       drop_next c.loop-i.outcomes c.args.outcomes.now c.loop-i.i outcome inv.3,
     )

@@ -5,10 +5,10 @@ use Rattle.rule.specs.Views.{code}
 use Rattle.rule.proofs.Arrays.{step_if_length}
 use Rattle.rule.proofs.held.Rule.finish.Goals as goal
 
-pub push-if-requires-2 : goal.push-if-requires-2
-push-if-requires-2 c =
+pub push_if-requires-2 : goal.push_if-requires-2
+push_if-requires-2 c =
     let e = step_if_length c.args.level.negated Negate in
-    omega (arith, c.requires, e, ap length c.push-if.ensures, length-append (code c.args.self.now) (step_if c.args.level.negated Negate))
+    omega (arith, c.requires, e, ap length c.push_if.ensures, length-append (code c.args.self.now) (step_if c.args.level.negated Negate))
 
 pub returns : goal.returns
-returns c = c.push-if-2.ensures ∙ ap (λ v. v ++ step_if c.args.level.both Both) c.push-if.ensures ∙ append_assoc (code c.args.self.now) _ _
+returns c = c.push_if-2.ensures ∙ ap (λ v. v ++ step_if c.args.level.both Both) c.push_if.ensures ∙ append_assoc (code c.args.self.now) _ _

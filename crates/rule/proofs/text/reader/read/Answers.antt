@@ -7,11 +7,11 @@ use Rattle.rule.proofs.Passing.{least_long}
 use Rattle.rule.proofs.Reading.{Judged, reading_none, reading_more, room, judged, allowed_if, bad_end, granted}
 use Rattle.rule.proofs.text.reader.read.Goals as goal
 
-pub returns-then-too-long : goal.returns-then-too-long
-returns-then-too-long c = least_long c.args.text.now (ltb-true 1024 (length c.args.text.now) (sym c.too-long.ensures ∙ c.if-too-long.true))
+pub returns-then-too_long : goal.returns-then-too_long
+returns-then-too_long c = least_long c.args.text.now (ltb-true 1024 (length c.args.text.now) (sym c.too_long.ensures ∙ c.if-too_long.true))
 
 pub loop-place-init : goal.loop-place-init
-loop-place-init c = reading_none _ _ _ _ _ _ _ (ltb-false 1024 (length c.args.text.now) (sym c.too-long.ensures ∙ c.if-too-long.false)) c.new-reader.ensures.place c.new-reader.ensures.count.0 c.new-reader.ensures.count.1
+loop-place-init c = reading_none _ _ _ _ _ _ _ (ltb-false 1024 (length c.args.text.now) (sym c.too_long.ensures ∙ c.if-too_long.false)) c.new-reader.ensures.place c.new-reader.ensures.count.0 c.new-reader.ensures.count.1
 
 pub take-requires : goal.take-requires
 take-requires c = record {
@@ -20,33 +20,33 @@ take-requires c = record {
   room = room _ _ _ _ _ _ _ _ c.loop-place.invariant;
 }
 
-pub returns-in-err-take : goal.returns-in-err-take
-returns-in-err-take c =
+pub returns-in_err-take : goal.returns-in_err-take
+returns-in_err-take c =
     let r = c.loop-place.reader in
-    let p = err_from_is_err_and c.from-residual.result c.from-residual.ensures.1 in
-    rw (p.1, p.2) (subst (Judged c.args.text.now r.mode _ (length (waiting r.outer)) r.count) c.in-err-take.ensures
+    let p = err_from_is_err_and c.from_residual.result c.from_residual.ensures.1 in
+    rw (p.1, p.2) (subst (Judged c.args.text.now r.mode _ (length (waiting r.outer)) r.count) c.in_err-take.ensures
     (judged _ _ _ _ _ _ _ _ c.loop-place.invariant c.loop-place-test.true _ refl))
 
 pub loop-place-preserved : goal.loop-place-preserved
 loop-place-preserved c =
     let r = c.loop-place.reader in
-    let a = c.in-ok-take.ensures in
+    let a = c.in_ok-take.ensures in
     reading_more _ _ _ _ _ _ _ _ c.loop-place.invariant c.loop-place-test.true _ refl
     (allowed_if r.mode _ (length (waiting r.outer)) r.count c.loop-place.place r.digit a.allowed)
     _ _ _ _ _ _ a.moved a.counted a.number
 
-pub returns-then-not-may-end : goal.returns-then-not-may-end
-returns-then-not-may-end c =
-    bad_end _ _ _ _ _ _ _ _ c.loop-place.invariant (omega (arith, c.loop-place-test.false)) (sym c.may-end.ensures ∙ c.if-not-may-end.true)
+pub returns-then-not-may_end : goal.returns-then-not-may_end
+returns-then-not-may_end c =
+    bad_end _ _ _ _ _ _ _ _ c.loop-place.invariant (omega (arith, c.loop-place-test.false)) (sym c.may_end.ensures ∙ c.if-not-may_end.true)
 
 pub conclude-requires : goal.conclude-requires
 conclude-requires c =
     let r = c.loop-place.reader in
-    let p = and_parts (ends r.mode) (eqb (length (waiting r.outer)) 0) (sym c.may-end.ensures ∙ c.if-not-may-end.false) in
+    let p = and_parts (ends r.mode) (eqb (length (waiting r.outer)) 0) (sym c.may_end.ensures ∙ c.if-not-may_end.false) in
     record { whole = p.0; room = omega (arith, room _ _ _ _ _ _ _ _ c.loop-place.invariant, c.loop-place.invariant.few) }
 
 pub returns : goal.returns
 returns c =
     let r = c.loop-place.reader in
-    let p = and_parts (ends r.mode) (eqb (length (waiting r.outer)) 0) (sym c.may-end.ensures ∙ c.if-not-may-end.false) in
+    let p = and_parts (ends r.mode) (eqb (length (waiting r.outer)) 0) (sym c.may_end.ensures ∙ c.if-not-may_end.false) in
     granted _ _ _ _ _ _ _ _ c.loop-place.invariant (omega (arith, c.loop-place-test.false)) _ (eqb-true (length (waiting r.outer)) 0 p.1) c.conclude.ensures

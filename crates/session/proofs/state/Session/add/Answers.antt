@@ -9,7 +9,7 @@ returns-then-place-gt63 c = record { same = search rules; cases = (outside (omeg
 pub returns-then-taken : goal.returns-then-taken
 returns-then-taken c = record { same = search rules; cases = (taken (omega arith) c.if-taken.true, refl) }
 
-pub returns-in-err-lot : goal.returns-in-err-lot
-returns-in-err-lot c =
-    let p = err_from_is_err_and c.from-residual.result c.from-residual.ensures.1 in
-    record { same = search rules; cases = rw (p.1, p.2) (unpriced (omega arith) c.if-taken.false c.in-err-lot.ensures, refl) }
+pub returns-in_err-lot : goal.returns-in_err-lot
+returns-in_err-lot c =
+    let p = err_from_is_err_and c.from_residual.result c.from_residual.ensures.1 in
+    record { same = search rules; cases = rw (p.1, p.2) (unpriced (omega arith) c.if-taken.false c.in_err-lot.ensures, refl) }

@@ -8,6 +8,6 @@ pub returns : goal.returns
 returns c =
     let loads : Loads c.args.self.now _ = search rules in
     elim c.match-load.branch [
-      | in-Ok w ↦ loaded _ _ _ _ _ _ _ w.answer-is c.as-slice.ensures.value loads w.in-Ok.ensures
-      | in-Err w ↦ unloaded _ _ _ _ _ _ _ _ w.answer-is c.as-slice.ensures.value loads w.in-Err.ensures.0 w.page-refusal.ensures w.in-Err.ensures.1
+      | in-Ok w ↦ loaded _ _ _ _ _ _ _ w.answer-is c.as_slice.ensures.value loads w.in-Ok.ensures
+      | in-Err w ↦ unloaded _ _ _ _ _ _ _ _ w.answer-is c.as_slice.ensures.value loads w.in-Err.ensures.0 w.page_refusal.ensures w.in-Err.ensures.1
     ]

@@ -9,7 +9,7 @@ pub advance-requires : goal.advance-requires
 advance-requires c =
     let r = c.args.self.now in
     let m = c.lex-mark.result in
-    let a = allowed_if r.mode m (length (waiting r.outer)) r.count c.args.place r.digit (sym c.in-ok-admit.ensures) in
+    let a = allowed_if r.mode m (length (waiting r.outer)) r.count c.args.place r.digit (sym c.in_ok-admit.ensures) in
     let d : length (waiting r.outer) ≤ 16 = omega (arith, levels_length r.outer.levels r.outer.depth, r.outer.bound) in
     record {
       lived = a.expected;
