@@ -76,8 +76,8 @@ fn descend<G: Network>(
 
 // What can still be sent along the residual arc `a`.
 fn room_of<G: Network>(network: &G, flow: &[u64], a: usize) -> u64
-    requires flow_len { (length flow.now ≡ (G.net network.now).arcs) × (a < 2 * (G.net network.now).arcs) }
-    requires by_index { (k : ℕ) → k < (G.net network.now).arcs → at flow.now k ≤ (G.net network.now).cap k }
+    requires sizes { (length flow.now ≡ (G.net network.now).arcs) × (a < 2 * (G.net network.now).arcs) }
+    requires within { (k : ℕ) → k < (G.net network.now).arcs → at flow.now k ≤ (G.net network.now).cap k }
     ensures { result ≡ room (G.net network.now) (at flow.now) a }
 {
     let k = a / 2;
@@ -109,9 +109,9 @@ fn bottleneck<G: Network>(network: &G, flow: &[u64], path: &[u32], d: usize) -> 
 
 // Sends `x` along the residual arc `a`.
 fn send_one<G: Network>(network: &G, flow: &mut [u64], a: usize, x: u64)
-    requires flow_len { (length flow.old ≡ (G.net network.now).arcs) × (a < 2 * (G.net network.now).arcs) }
-    requires x_bound { x ≤ room (G.net network.now) (at flow.old) a }
-    requires by_index { (k : ℕ) → k < (G.net network.now).arcs → at flow.old k ≤ (G.net network.now).cap k }
+    requires sizes { (length flow.old ≡ (G.net network.now).arcs) × (a < 2 * (G.net network.now).arcs) }
+    requires fits { x ≤ room (G.net network.now) (at flow.old) a }
+    requires within { (k : ℕ) → k < (G.net network.now).arcs → at flow.old k ≤ (G.net network.now).cap k }
     ensures { Pushed (G.net network.now) (at flow.old) (at flow.new) a x }
 {
     let k = a / 2;
