@@ -8,4 +8,4 @@ pub invariant_of-result : goal.invariant_of-result
 invariant_of-result c =
     let e = c.start-first.ensures in
     let f = begin_flow (pictured c.args.drawn) (pledge c.args.table.now) (at c.start-first.result) e.0 e.1 in
-    (search rules, (f.within, (λ v h. f.conserved v h.0 h.1 h.2, tt)))
+    record { arcs = search rules; within = f.within; conserved = λ v h. f.conserved v h.0 h.1 h.2 }

@@ -7,7 +7,7 @@ pub load-lawful-requires : goal.load-lawful-requires
 load-lawful-requires c = zeros_at 2128
 
 pub returns-then-lawful : goal.returns-then-lawful
-returns-then-lawful c = (c.load_lawful.result, record { test = c.load_lawful.ensures.test; loaded = c.load_lawful.ensures.loaded; blank = λ n. absurd (true≢false (sym c.if-lawful.true ∙ n)) })
+returns-then-lawful c = (c.load-lawful.result, record { test = c.load-lawful.ensures.test; loaded = c.load-lawful.ensures.loaded; blank = λ n. absurd (true≢false (sym c.if-lawful.true ∙ n)) })
 
 pub returns : goal.returns
-returns c = (c.load_lawful.result, record { test = c.load_lawful.ensures.test; loaded = λ y. absurd (false≢true (sym c.if-lawful.false ∙ y)); blank = λ _ k h. zeros_at 2128 k })
+returns c = (c.load-lawful.result, record { test = c.load-lawful.ensures.test; loaded = λ y. absurd (false≢true (sym c.if-lawful.false ∙ y)); blank = λ _ k h. zeros_at 2128 k })

@@ -12,31 +12,18 @@ invariant_of-self g c =
     let t = c.allocate-answer.new.table in
     let size : length t ≡ 1024 = omega arith in
     let law = lawful_after m (view b) (seen c.problem-problem.result) c.problem-problem.ensures c.args.record.now _ t
-    c.allocate-answer.result (sym c.is_ok.ensures.value ∙ c.if-is_ok.true) c.allocate-answer.ensures in (
-      b.places,
-      (
-        (b.tables.0, size),
-        (
-          b.grounded,
-          (
-            grounded m b.lots b.exposures t law,
-            (
-              b.low,
-              (
-                low m b.lots b.exposures t law b.worths size,
-                (
-                  b.worths,
-                  (
-                    b.amounts,
-                    ((λ idle. (let run = c.requires in let z : ◌≡◌ {A = ℕ} 0 1 = cc in absurd (omega arith))), tt),
-                  ),
-                ),
-              ),
-            ),
-          ),
-        ),
-      ),
-    )
+    c.allocate-answer.result (sym c.is_ok.ensures.value ∙ c.if-is_ok.true) c.allocate-answer.ensures in
+    record {
+      places = b.places;
+      tables = (b.tables.0, size);
+      grounded = b.grounded;
+      grounded_working = grounded m b.lots b.exposures t law;
+      low = b.low;
+      low_working = low m b.lots b.exposures t law b.worths size;
+      worths = b.worths;
+      amounts = b.amounts;
+      idle = λ idle. (let run = c.requires in let z : ◌≡◌ {A = ℕ} 0 1 = cc in absurd (omega arith));
+    }
 
 pub returns-then-is_ok : goal.returns-then-is_ok
 returns-then-is_ok g c =

@@ -20,28 +20,18 @@ pub invariant_of-self : goal.invariant_of-self
 invariant_of-self c =
     let b = c.args.self.now in
     let p = c.args.place in
-    let l = c.in_ok-lot.lot in (
-      (length-set b.lots p (Some l) ∙ b.places.0, b.places.1),
-      (
-        b.tables,
-        (
-          lot_filled b.lots b.exposures b.standing p l b.grounded,
-          (
-            lot_filled b.lots b.exposures b.working p l b.grounded_working,
-            (
-              b.low,
-              (
-                b.low_working,
-                (
-                  low_set worth_of b.lots p (Some l) 1099511627776 (worth_low (nth_points c.args.card.now.curves) c.args.terms.now l c.in_ok-lot.ensures) b.worths,
-                  (b.amounts, (b.idle, tt)),
-                ),
-              ),
-            ),
-          ),
-        ),
-      ),
-    )
+    let l = c.in_ok-lot.lot in
+    record {
+      places = (length-set b.lots p (Some l) ∙ b.places.0, b.places.1);
+      tables = b.tables;
+      grounded = lot_filled b.lots b.exposures b.standing p l b.grounded;
+      grounded_working = lot_filled b.lots b.exposures b.working p l b.grounded_working;
+      low = b.low;
+      low_working = b.low_working;
+      worths = low_set worth_of b.lots p (Some l) 1099511627776 (worth_low (nth_points c.args.card.now.curves) c.args.terms.now l c.in_ok-lot.ensures) b.worths;
+      amounts = b.amounts;
+      idle = b.idle;
+    }
 
 pub returns : goal.returns
 returns c =

@@ -19,28 +19,15 @@ invariant_of-self c =
     let st = c.zero_column.new.pledges in
     let wt = c.zero_column-2.new.pledges in
     let is = c.zero_column.ensures in
-    let is' = c.zero_column-2.ensures in (
-      (b.places.0, length-set b.exposures e None ∙ b.places.1),
-      (
-        (ap length is ∙ (zeroed_length b.standing e 64 ∙ b.tables.0), ap length is' ∙ (zeroed_length b.working e 64 ∙ b.tables.1)),
-        (
-          exposure_emptied b.standing st e is b.lots b.exposures within b.grounded,
-          (
-            exposure_emptied b.working wt e is' b.lots b.exposures within b.grounded_working,
-            (
-              zeroed_low b.standing st e is b.low,
-              (
-                zeroed_low b.working wt e is' b.low_working,
-                (
-                  b.worths,
-                  (
-                    low_set amount_of b.exposures e None 1099511627776 (omega arith) b.amounts,
-                    ((λ h. is' ∙ (ap (λ x. zeroed x e 64) (b.idle h) ∙ sym is)), tt),
-                  ),
-                ),
-              ),
-            ),
-          ),
-        ),
-      ),
-    )
+    let is' = c.zero_column-2.ensures in
+    record {
+      places = (b.places.0, length-set b.exposures e None ∙ b.places.1);
+      tables = (ap length is ∙ (zeroed_length b.standing e 64 ∙ b.tables.0), ap length is' ∙ (zeroed_length b.working e 64 ∙ b.tables.1));
+      grounded = exposure_emptied b.standing st e is b.lots b.exposures within b.grounded;
+      grounded_working = exposure_emptied b.working wt e is' b.lots b.exposures within b.grounded_working;
+      low = zeroed_low b.standing st e is b.low;
+      low_working = zeroed_low b.working wt e is' b.low_working;
+      worths = b.worths;
+      amounts = low_set amount_of b.exposures e None 1099511627776 (omega arith) b.amounts;
+      idle = λ h. is' ∙ (ap (λ x. zeroed x e 64) (b.idle h) ∙ sym is);
+    }

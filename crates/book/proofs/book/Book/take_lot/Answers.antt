@@ -10,16 +10,15 @@ invariant_of-self c =
     let b = c.args.self.now in
     let p = c.args.place in
     let free : ltb 0 (sum_over 16 (λ e. table b.standing p e)) ≡ false = c.requires.free in
-    let free-working : ltb 0 (sum_over 16 (λ e. table b.working p e)) ≡ false = ap (λ t. ltb 0 (sum_over 16 (λ e. table t p e))) (b.idle c.requires.idle) ∙ free in (
-      (length-set b.lots p None ∙ b.places.0, b.places.1),
-      (
-        b.tables,
-        (
-          lot_emptied b.lots b.exposures b.standing p free b.grounded,
-          (
-            lot_emptied b.lots b.exposures b.working p free-working b.grounded_working,
-            (b.low, (b.low_working, (low_set worth_of b.lots p None 1099511627776 (omega arith) b.worths, (b.amounts, (b.idle, tt))))),
-          ),
-        ),
-      ),
-    )
+    let free_working : ltb 0 (sum_over 16 (λ e. table b.working p e)) ≡ false = ap (λ t. ltb 0 (sum_over 16 (λ e. table t p e))) (b.idle c.requires.idle) ∙ free in
+    record {
+      places = (length-set b.lots p None ∙ b.places.0, b.places.1);
+      tables = b.tables;
+      grounded = lot_emptied b.lots b.exposures b.standing p free b.grounded;
+      grounded_working = lot_emptied b.lots b.exposures b.working p free_working b.grounded_working;
+      low = b.low;
+      low_working = b.low_working;
+      worths = low_set worth_of b.lots p None 1099511627776 (omega arith) b.worths;
+      amounts = b.amounts;
+      idle = b.idle;
+    }
