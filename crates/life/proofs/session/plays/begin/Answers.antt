@@ -10,7 +10,7 @@ pub unreachable-requires : goal.unreachable-requires
 unreachable-requires c =
     let s = view c.args.book.now in
     let held = subst (λ x. has_slip s x ≡ true) c.in-Some.is c.requires in
-    not_begun no_meaning s _ c.in-Some.-old _ held (c.in-Ok.ensures no_meaning)
+    not_begun no_meaning s _ c.in-Some._old _ held (c.in-Ok.ensures no_meaning)
 
 pub returns-in-None : goal.returns-in-None
 returns-in-None c =
