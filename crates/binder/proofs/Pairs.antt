@@ -3,7 +3,7 @@
 -- binders in a row the outer switch only says how many numbers the first one or two take, and the third is counted
 -- from there.
 
-use Rattle.std.proofs.Common.{◌≡◌, ℕ, ◌+◌, ◌≤◌, false, arith, rules}
+use Rattle.std.proofs.Common.{◌≡◌, ℕ, ◌≤◌, false, arith, rules}
 use Rattle.std.proofs.lemmas.Bool.Decides.{nat_tests}
 use Rattle.grammar.specs.declared.Description.{Description}
 use Rattle.binder.specs.Meaning.{Meaning, Lawful, Same}

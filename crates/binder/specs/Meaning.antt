@@ -4,7 +4,7 @@
 -- schedule of a number admits, by their description; and which share of an exposure, in ten-thousandths, one issuer
 -- may cover under it. Whatever stands above a binder relies on nothing else.
 
-use Rattle.std.specs.Prelude.{◌≡◌, ℕ, ◌≤◌, Bool, true, false, cond, ◌&&◌, ◌==◌, nat_le}
+use Rattle.std.specs.Prelude.{◌≡◌, ℕ, ◌≤◌, Bool, false, cond, ◌&&◌, ◌==◌, nat_le}
 use Rattle.grammar.specs.declared.Description.{Description}
 
 pub record Meaning : Type 0 where

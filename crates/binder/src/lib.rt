@@ -2,6 +2,7 @@
 // exposure an issuer may cover. A binder is a rating table or a rule schedule, an exclusion of
 // issuers over a binder, or a pair of binders. Nothing is allocated; a question takes constant time
 // in a table, an exclusion and a pair, and one run of the rule in a schedule.
+#![tactic(auto)]
 
 ghost use Rattle.std.specs.Prelude.{◌≡◌};
 ghost use Rattle.binder.specs.Meaning.{Meaning, Lawful};

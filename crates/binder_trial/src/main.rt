@@ -1,6 +1,7 @@
 // Tries binders on tables of questions whose answers were worked out by hand from the rules of
 // binders: at each edge of a range, of a list and of a switch, and after each refusal. A binder of any
 // kind is then held against the same binder put together from its own types, on many questions.
+#![tactic(auto)]
 
 mod any;
 mod exclusions;

@@ -1,6 +1,6 @@
 -- What an allocation over the answers that were written down says of the book itself.
 
-use Rattle.std.proofs.Common.{◌≡◌, ℕ, true, false, List, length, is_ok, Ok, Err, Result, sym, refl, subst, arith}
+use Rattle.std.proofs.Common.{◌≡◌, ℕ, true, false, List, length, is_ok, Ok, Err, Result, refl, arith}
 use Rattle.binder.specs.Meaning.{Meaning}
 use Rattle.table.specs.Table.{Situation, Lawful}
 use Rattle.table.specs.Agreement.{Agrees}

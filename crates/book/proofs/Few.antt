@@ -3,7 +3,7 @@
 -- Each place gives one instruction at most, and none unless one of the tables has a pledge there, which lies on a held lot and an
 -- open exposure. So the instructions are counted by a sum over the places that are both.
 
-use Rattle.std.proofs.Common.{◌≡◌, ℕ, zero, suc, ◌+◌, ◌*◌, ◌/◌, ◌%◌, ◌<◌, ◌≤◌, Bool, true, false, ◌⊎◌, List, length, get_or, Option, sym, refl, ap, ◌∙◌, subst, inl, inr, ⊎_elim, add-mul, zero-mul, arith}
+use Rattle.std.proofs.Common.{◌≡◌, ℕ, zero, suc, ◌+◌, ◌*◌, ◌/◌, ◌%◌, ◌<◌, ◌≤◌, Bool, true, false, List, length, get_or, Option, sym, refl, ap, ◌∙◌, subst, ⊎_elim, add-mul, zero-mul, arith}
 use Rattle.std.proofs.lemmas.Bool.{cases_eq}
 use Rattle.network.specs.Sums.{sum_over, when}
 use Rattle.network.proofs.Sums.{sum_le}
@@ -12,9 +12,9 @@ use Rattle.curve.specs.declared.lot.Lot.{Lot}
 use Rattle.calls.specs.declared.Exposure.{Exposure}
 use Rattle.calls.specs.State.{table, held_at, open_at}
 use Rattle.calls.specs.Call.{count}
-use Rattle.calls.specs.Instructions.{move, changes, closings}
+use Rattle.calls.specs.Instructions.{changes, closings}
 use Rattle.book.specs.Kept.{Grounded}
-use Rattle.book.proofs.Collected.{collected, change_at, closing_at, changes_is, closings_is, collected_length, move_short, move_none}
+use Rattle.book.proofs.Collected.{change_at, closing_at, changes_is, closings_is, collected_length, move_short, move_none}
 
 -- a sum of the same number over the places that pass a test
 times : (n k : ℕ) (p : ℕ → Bool) → sum_over n (λ l. when (p l) k) ≡ count n p * k

@@ -1,6 +1,6 @@
 -- What a lawful table keeps of a book's invariants.
 
-use Rattle.std.proofs.Common.{◌≡◌, ℕ, ◌+◌, ◌*◌, ◌/◌, ◌%◌, ◌^◌, ◌<◌, ◌≤◌, Bool, true, false, ◌&&◌, ◌⊎◌, List, length, get_or, Option, sym, refl, subst, inl, inr, ⊎_elim, arith}
+use Rattle.std.proofs.Common.{◌≡◌, ℕ, ◌+◌, ◌*◌, ◌/◌, ◌%◌, ◌<◌, ◌≤◌, Bool, true, false, ◌&&◌, List, length, get_or, Option, sym, refl, subst, ⊎_elim, arith}
 use native.Mathlib.Decide.{dec_lt}
 use Rattle.std.proofs.lemmas.List.{get_or_past}
 use Rattle.std.proofs.lemmas.Bool.{cases_eq}
@@ -11,7 +11,7 @@ use Rattle.table.specs.Table.{Lawful, allowed}
 use Rattle.curve.specs.declared.lot.Lot.{Lot}
 use Rattle.calls.specs.declared.Exposure.{Exposure}
 use Rattle.calls.specs.State.{table, held_at, open_at}
-use Rattle.calls.specs.Situation.{situation_of, admits_of}
+use Rattle.calls.specs.Situation.{situation_of}
 use Rattle.book.specs.Kept.{Grounded, Low, Worths}
 
 left_true : (a b : Bool) → (a && b) ≡ true → a ≡ true

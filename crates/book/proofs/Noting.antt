@@ -1,8 +1,7 @@
 -- Answers that are written down one after the other, and what they amount to.
 
-use Rattle.std.proofs.Common.{◌≡◌, ℕ, zero, suc, ◌+◌, ◌*◌, ◌/◌, ◌%◌, ◌^◌, ◌<◌, ◌≤◌, Bool, true, false, ◌&&◌, eqb, ◌≢◌, List, [], ◌∷◌, length, get_or, set, is_some, Some, None, Option, sym, refl, ap, ◌∙◌, subst, arith, get_or-set_other, get_or-set_same, below_more, eq-eqb}
+use Rattle.std.proofs.Common.{◌≡◌, ℕ, zero, suc, ◌+◌, ◌*◌, ◌/◌, ◌%◌, ◌<◌, Bool, true, false, ◌&&◌, eqb, ◌≢◌, List, [], ◌∷◌, length, get_or, set, is_some, Some, None, Option, sym, refl, ap, ◌∙◌, subst, arith, get_or-set_other, get_or-set_same, below_more, eq-eqb}
 use Rattle.std.proofs.lemmas.Bool.{eqb-true}
-use Rattle.std.proofs.lemmas.Bool.Decides.{nat_tests}
 use Rattle.binder.specs.Meaning.{Meaning}
 use Rattle.table.specs.Drawn.{least}
 use Rattle.table.specs.Agreement.{Agrees}
@@ -11,7 +10,7 @@ use Rattle.cover.specs.View.{at, flag, Low, situation}
 use Rattle.curve.specs.declared.lot.Lot.{Lot}
 use Rattle.calls.specs.declared.Exposure.{Exposure}
 use Rattle.calls.specs.State.{lot_at, exposure_at, held_at, open_at}
-use Rattle.calls.specs.Situation.{issuer_of, worth_of, amount_of, admits_of, limit_of, situation_of}
+use Rattle.calls.specs.Situation.{issuer_of, admits_of, limit_of, situation_of}
 use Rattle.book.specs.Asked.{limit_for, LotsNoted, ExposuresNoted, PairsNoted}
 
 pub noted_more : {A : Type 0} (d : A) (xs : List A) (f : ℕ → A) (i : ℕ) (v : A) → i < length xs → ((k : ℕ) → k < i → get_or xs k d ≡ f k) → v ≡ f i

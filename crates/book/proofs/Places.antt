@@ -1,13 +1,13 @@
 -- Places of lots and exposures that are filled or emptied, and the pledges that lie on them.
 
-use Rattle.std.proofs.Common.{◌≡◌, ℕ, zero, suc, ◌+◌, ◌*◌, ◌/◌, ◌%◌, ◌^◌, ◌<◌, ◌≤◌, Bool, true, false, eqb, ltb, ◌≢◌, ◌⊎◌, List, [], ◌∷◌, length, get_or, set, is_some, Some, None, Option, sym, refl, ap, ◌∙◌, subst, inl, inr, ⊎_elim, arith, length-set, get_or-set_other}
+use Rattle.std.proofs.Common.{◌≡◌, ℕ, zero, suc, ◌+◌, ◌*◌, ◌/◌, ◌%◌, ◌<◌, Bool, true, false, ltb, ◌≢◌, ◌⊎◌, List, [], ◌∷◌, length, get_or, set, is_some, Some, None, Option, sym, refl, subst, inl, inr, ⊎_elim, arith, length-set, get_or-set_other}
 use Rattle.std.proofs.lemmas.Bool.Decides.{nat_tests}
 use Rattle.std.proofs.lemmas.Bool.{cases_eq}
 use Rattle.network.specs.Sums.{sum_over}
 use Rattle.network.proofs.Sums.{sum_term}
 use Rattle.curve.specs.declared.lot.Lot.{Lot}
 use Rattle.calls.specs.declared.Exposure.{Exposure}
-use Rattle.calls.specs.State.{table, held_at, open_at}
+use Rattle.calls.specs.State.{table}
 use Rattle.calls.specs.Step.{zeroed}
 use Rattle.book.specs.Kept.{Grounded, Low}
 

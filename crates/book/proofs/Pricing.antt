@@ -1,12 +1,11 @@
 -- What comes of pricing a lot, as the relation over calls says it.
 
-use Rattle.std.proofs.Common.{◌≡◌, ℕ, zero, suc, ◌-◌, ◌*◌, ◌/◌, ◌^◌, ◌<◌, ◌≤◌, Bool, true, false, cond, not, ◌&&◌, ltb, leb, List, [], ◌∷◌, set, Some, None, sym, refl, ap, ◌∙◌, subst, ⊎_elim, arith}
+use Rattle.std.proofs.Common.{◌≡◌, ℕ, zero, suc, ◌<◌, ◌≤◌, Bool, true, false, ◌&&◌, ltb, leb, List, [], ◌∷◌, Some, None, refl, ap, arith}
 use Rattle.std.proofs.lemmas.Bool.Decides.{nat_tests}
 use Rattle.cause.specs.declared.Cause.{Cause}
-use Rattle.cause.specs.declared.Cause.TheVariants.{FieldOutside, PastCurve}
 use Rattle.binder.specs.Meaning.{Meaning}
 use Rattle.curve.specs.Points.{Points, Lawful, Haircut, Past, blank}
-use Rattle.curve.specs.Lot.{InRange, lot_of, collateral, Priced, Unpriced}
+use Rattle.curve.specs.Lot.{InRange, Priced, Unpriced}
 use Rattle.curve.specs.Lot.Unpriced.{outside, past}
 use Rattle.curve.specs.Card.{nth_points}
 use Rattle.curve.specs.declared.curve.Curve.{Curve}
@@ -15,7 +14,7 @@ use Rattle.curve.specs.declared.lot.Terms.{Terms}
 use Rattle.curve.specs.declared.lot.Lot.{Lot}
 use Rattle.curve.proofs.Ordered.{none_past, value_low}
 use Rattle.calls.specs.State.{State, held_at}
-use Rattle.calls.specs.Call.{Outcome, in_range, past_end, curve_of, cause, kept}
+use Rattle.calls.specs.Call.{in_range, past_end, curve_of, cause, kept}
 use Rattle.calls.specs.Call.Call.{add}
 use Rattle.calls.specs.Call.Outcome.{added, refused}
 use Rattle.calls.specs.Step.{Step, with_lot}

@@ -1,6 +1,6 @@
 -- The relation over calls, once it is known whether a cause is against the call.
 
-use Rattle.std.proofs.Common.{◌≡◌, ℕ, true, not, Some, None, sym, refl, ap, subst, inr}
+use Rattle.std.proofs.Common.{◌≡◌, ℕ, true, not, None, sym, refl, ap, subst, inr}
 use Rattle.cause.specs.declared.Cause.TheVariants.{SlipStale}
 use Rattle.table.specs.Outcome.{Short}
 use Rattle.cover.specs.Answer.{noted}

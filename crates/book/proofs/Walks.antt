@@ -1,7 +1,7 @@
 -- Loops over lots, exposures and tables.
 
-use Rattle.std.proofs.Common.{◌≡◌, ℕ, zero, suc, ◌+◌, ◌*◌, ◌<◌, ◌≤◌, Bool, true, false, List, set, sym, refl, ap, ◌∙◌, add-one, arith}
-use Rattle.network.specs.Sums.{sum_over, when}
+use Rattle.std.proofs.Common.{◌≡◌, ℕ, ◌+◌, ◌*◌, Bool, true, false, List, set, refl, ap, ◌∙◌, add-one, arith}
+use Rattle.network.specs.Sums.{when}
 use Rattle.network.proofs.Sums.{sum_more, sum_start}
 use Rattle.calls.specs.Call.{count}
 use Rattle.calls.specs.Step.{zeroed}

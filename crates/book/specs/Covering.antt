@@ -1,6 +1,6 @@
 -- What an allocation does to the book and the record, once the slip is in order. Said again by the relation over calls.
 
-use Rattle.std.specs.Prelude.{◌≡◌, ℕ, List, length, Ok, Err, Result}
+use Rattle.std.specs.Prelude.{◌≡◌, ℕ, length, Ok, Err, Result}
 use Rattle.binder.specs.Meaning.{Meaning}
 use Rattle.table.specs.Outcome.{Granted, Short}
 use Rattle.cover.specs.Answer.{noted}

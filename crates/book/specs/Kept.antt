@@ -1,7 +1,7 @@
 -- What every book keeps, whatever its binder: a pledge lies on a held lot and an open exposure, and numbers are small enough for
 -- every sum. These are invariants of the type; no promise rests on reading them.
 
-use Rattle.std.specs.Prelude.{◌≡◌, ℕ, ◌/◌, ◌%◌, ◌^◌, ◌<◌, ◌≤◌, true, List, Option, slice_index}
+use Rattle.std.specs.Prelude.{◌≡◌, ℕ, ◌/◌, ◌%◌, ◌^◌, ◌<◌, true, List, Option, slice_index}
 use Rattle.curve.specs.declared.lot.Lot.{Lot}
 use Rattle.calls.specs.declared.Exposure.{Exposure}
 use Rattle.calls.specs.State.{held_at, open_at, lot_at, exposure_at}

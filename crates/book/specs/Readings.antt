@@ -1,6 +1,6 @@
 -- To believe: what a reading of a book answers.
 
-use Rattle.std.specs.Prelude.{ℕ, Bool, cond, ◌||◌, List, Some, None, Ok, Err, Option, Result, nat_lt}
+use Rattle.std.specs.Prelude.{ℕ, cond, ◌||◌, List, Some, None, Ok, Err, Option, Result, nat_lt}
 use Rattle.cause.specs.declared.Cause.{Cause}
 use Rattle.cause.specs.declared.Cause.TheVariants.{PlaceOutside, PlaceEmpty}
 use Rattle.curve.specs.declared.lot.Lot.{Lot}

@@ -1,4 +1,5 @@
 // A pledge book: its state, the calls that change it, and the readings.
+#![tactic(auto)]
 
 mod asking;
 pub mod book;

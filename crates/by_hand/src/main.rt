@@ -1,5 +1,6 @@
 // A run by hand: what a program that holds its own slip looks like. The slip has to be spent on every
 // way out; tests/slips shows that a program that forgets it, or spends it twice, is turned away.
+#![tactic(auto)]
 
 use book::book::Book;
 use cause::Cause;

@@ -1,5 +1,6 @@
 // What each call on a pledge book does, as one relation over its state; the lives of a book, and the
 // law over all of them. Definitions and laws; the plain types that the calls take and give.
+#![tactic(auto)]
 
 ghost use Rattle.calls.specs.Laws.{EveryLifeSound, SmallestCause, ToldByCalls};
 

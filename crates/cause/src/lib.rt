@@ -1,5 +1,6 @@
 // Why a call is refused. Every crate answers with one of these causes, and every contract that
 // speaks of a refusal's number calls the one definition of it.
+#![tactic(auto)]
 
 ghost use Rattle.std.specs.Prelude.{◌≡◌};
 ghost use Rattle.cause.specs.Numbers.{number as listed};

@@ -1,7 +1,7 @@
 -- What the rounds leave behind is the answer: the flow's table where all that is owed is given, else the least shortage with the record
 -- of what is reached.
 
-use Rattle.std.proofs.Common.{◌≡◌, ℕ, ◌-◌, ◌<◌, ◌≤◌, Bool, true, false, cond, eqb, ltb, List, Ok, Err, Result, sym, refl, ap, ◌∙◌, subst, arith}
+use Rattle.std.proofs.Common.{◌≡◌, ℕ, ◌-◌, ◌≤◌, Bool, cond, eqb, ltb, List, Ok, Err, sym, ap, ◌∙◌, subst, arith}
 use Rattle.std.proofs.lemmas.Bool.{eq-eqb, ne_eqb, ltb-false, cond-true, cond-false}
 use Rattle.network.specs.Sums.{sum_over}
 use Rattle.network.specs.Flow.{value}

@@ -1,8 +1,8 @@
 -- The smallest held lot place of each issuer, kept while the lots are gone through.
 
-use Rattle.std.proofs.Common.{◌≡◌, ℕ, ◌+◌, ◌<◌, ◌≤◌, Bool, true, false, cond, ◌&&◌, eqb, ◌⊎◌, List, length, set, replicate, sym, refl, ap, ◌∙◌, subst, inl, inr, arith}
+use Rattle.std.proofs.Common.{◌≡◌, ℕ, ◌+◌, ◌<◌, ◌≤◌, true, false, List, length, set, replicate, sym, ap, ◌∙◌, subst, inl, inr, arith}
 use lib.ListN.{get_or-replicate}
-use Rattle.std.proofs.lemmas.Bool.{cases_eq, eq-eqb, ne_eqb, and_left, and_right, and_from, cond-true, cond-false}
+use Rattle.std.proofs.lemmas.Bool.{cases_eq, eq-eqb, ne_eqb, and_left, and_right, and_from}
 use Rattle.table.specs.Table.{Situation, of_issuer}
 use Rattle.table.specs.Drawn.{slot}
 use Rattle.table.proofs.Slots.{least_first, slot_issuer}

@@ -1,15 +1,15 @@
 -- A table is lawful exactly if its pledges can be sent along their paths one after the other, no arc carrying more than it can.
 -- The flow is then the sum of the paths. Where an arc cannot carry a pledge, it could not carry the whole table's either.
 
-use Rattle.std.proofs.Common.{◌≡◌, ℕ, ◌+◌, ◌-◌, ◌*◌, ◌/◌, ◌%◌, ◌<◌, ◌≤◌, Bool, true, false, eqb, ◌⊎◌, List, sym, refl, ap, ◌∙◌, subst, inl, inr, arith}
-use Rattle.network.specs.Sums.{sum_over, when, Agree}
-use Rattle.network.proofs.Sums.{sum_start, sum_more, sum_same, hit}
+use Rattle.std.proofs.Common.{◌≡◌, ℕ, ◌+◌, ◌*◌, ◌/◌, ◌%◌, ◌<◌, ◌≤◌, Bool, true, false, eqb, List, sym, refl, ap, ◌∙◌, inl, inr, arith}
+use Rattle.network.specs.Sums.{when, Agree}
+use Rattle.network.proofs.Sums.{sum_start, sum_more, sum_same}
 use Rattle.table.specs.Table.{Situation, Lawful}
-use Rattle.table.specs.Drawn.{Arc, place, arc, slot, cap_of, flow_of}
+use Rattle.table.specs.Drawn.{place, arc, slot, cap_of, flow_of}
 use Rattle.table.specs.Drawn.Arc.{supply, offer, bound, demand}
 use Rattle.table.specs.Paths.{share}
 use Rattle.table.proofs.Sums.{sum_front}
-use Rattle.table.proofs.Paths.{paths_by_place, alone, Alone}
+use Rattle.table.proofs.Paths.{paths_by_place, alone}
 use Rattle.table.proofs.Tables.{lawful_within_lem, within_lawful}
 use Rattle.cover.specs.View.{at, pledge}
 use Rattle.cover.specs.Loading.{Within, Bears, Carried, TooMuch, front, Loaded}

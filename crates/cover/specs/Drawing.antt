@@ -1,6 +1,6 @@
 -- The arrays that hold a drawn network: each arc's capacity, each lot's slot, and the lots of each slot.
 
-use Rattle.std.specs.Prelude.{◌≡◌, ℕ, ◌+◌, ◌*◌, ◌<◌, ◌≤◌, true, false, ◌⊎◌, List, ◌==◌}
+use Rattle.std.specs.Prelude.{◌≡◌, ℕ, ◌+◌, ◌*◌, ◌<◌, true, false, ◌⊎◌, List, ◌==◌}
 use Rattle.network.specs.Sums.{sum_over, when}
 use Rattle.table.specs.Table.{Situation, of_issuer}
 use Rattle.table.specs.Drawn.{slot, arc, cap_of}

@@ -4,7 +4,7 @@ use Rattle.std.specs.Prelude.{◌≡◌, ℕ, ◌+◌, ◌/◌, ◌%◌, ◌<◌
 use Rattle.network.specs.Sums.{sum_over}
 use Rattle.network.specs.Flow.{into, out_of}
 use Rattle.table.specs.Table.{Situation}
-use Rattle.table.specs.Drawn.{Arc, place, arc, slot, cap_of, net_of}
+use Rattle.table.specs.Drawn.{place, arc, slot, cap_of, net_of}
 use Rattle.table.specs.Drawn.Arc.{supply, offer, bound, demand}
 use Rattle.table.specs.Paths.{share}
 use Rattle.cover.specs.View.{at}

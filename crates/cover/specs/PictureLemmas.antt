@@ -1,11 +1,10 @@
 -- A drawn network keeps the laws of networks.
 
-use Rattle.std.specs.Prelude.{◌≡◌, ℕ, ◌+◌, ◌*◌, ◌^◌, ◌<◌, ◌≤◌, refl}
+use Rattle.std.specs.Prelude.{◌≡◌, ℕ, ◌^◌, ◌<◌}
 use Rattle.std.proofs.Common.{sym, ap, subst, ◌∙◌, arith}
-use Rattle.network.specs.Sums.{when}
 use Rattle.network.specs.Residual.{to}
 use Rattle.flow.specs.Lawful.{Lawful}
-use Rattle.table.specs.Drawn.{Node, number, node, slot, arc, net_of, cap_of, drawn_arc, bears}
+use Rattle.table.specs.Drawn.{Node, number, node, arc, net_of, cap_of, drawn_arc, bears}
 use Rattle.table.specs.Listing.{Members, deg_of, inc_of, target_of}
 use Rattle.table.proofs.Sums.{when_low}
 use Rattle.table.proofs.Slots.{slot_low}

@@ -1,9 +1,9 @@
 -- The lots of each slot, row by row, while the lots are gone through: lot l is put behind those of its slot before it.
 
-use Rattle.std.specs.Prelude.{◌≡◌, ℕ, ◌+◌, ◌*◌, ◌<◌, ◌≤◌, ◌⊎◌, List, length, ◌==◌, slice_set, refl}
-use Rattle.std.proofs.Common.{sym, ap, subst, ◌∙◌, inl, inr, arith}
+use Rattle.std.specs.Prelude.{◌≡◌, ℕ, ◌+◌, ◌*◌, ◌<◌, ◌≤◌, List, length, ◌==◌, slice_set, refl}
+use Rattle.std.proofs.Common.{sym, ap, ◌∙◌, inl, inr, arith}
 use Rattle.std.proofs.lemmas.Bool.{cases_eq, cases_lt}
-use Rattle.network.specs.Sums.{sum_over, when}
+use Rattle.network.specs.Sums.{when}
 use Rattle.network.proofs.Sums.{sum_start, sum_more, hit, miss}
 use Rattle.table.proofs.Sums.{sum_front, sum_below, when_low}
 use Rattle.cover.specs.View.{at}

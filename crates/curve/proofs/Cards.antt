@@ -1,12 +1,12 @@
 -- The curves of a card, and a fault on its way up.
 
-use Rattle.std.proofs.Common.{◌≡◌, ℕ, zero, suc, ◌<◌, ◌≤◌, List, [], ◌∷◌, length, get_or, set, Ok, Err, Result, sym, refl, ap, subst, arith, MatchResult}
+use Rattle.std.proofs.Common.{◌≡◌, ℕ, zero, suc, ◌<◌, List, [], ◌∷◌, length, get_or, set, Ok, Err, Result, refl, ap, subst, arith, MatchResult}
 use Rattle.curve.specs.Held.{held}
 use Rattle.curve.specs.Card.{nth_points, with_class}
 use Rattle.curve.specs.declared.curve.Curve.{Curve}
 use Rattle.curve.specs.declared.curve.page.PageFault.{PageFault}
 use Rattle.curve.specs.declared.card.CardFault.{CardFault}
-use Rattle.curve.specs.declared.card.CardFault.TheVariants.{Page, Class}
+use Rattle.curve.specs.declared.card.CardFault.TheVariants.{Page}
 
 pub nth_points_set : (cs : List Curve) (k : ℕ) (c : Curve) → k < length cs → nth_points (set cs k c) k ≡ held c
 nth_points_set [] k c h = absurd (omega arith)

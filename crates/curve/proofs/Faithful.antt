@@ -4,10 +4,10 @@
 -- the high byte of a month or of a haircut, by whether i is odd and whether it comes before 1 + 2 n. So two pages of
 -- the same points are equal byte by byte. The other way round, the two bytes of a number fix it.
 
-use Rattle.std.proofs.Common.{◌≡◌, ℕ, zero, suc, ◌+◌, ◌-◌, ◌*◌, ◌/◌, ◌%◌, ◌<◌, ◌≤◌, Bool, true, false, ◌&&◌, ◌||◌, eqb, ltb, leb, ◌⊎◌, List, length, get_or, take, sym, refl, ap, ◌∙◌, subst, inl, inr, ⊎_elim, arith, ext_get_or}
-use native.Mathlib.Decide.{dec_lt, dec_le}
+use Rattle.std.proofs.Common.{◌≡◌, ℕ, zero, suc, ◌+◌, ◌-◌, ◌*◌, ◌/◌, ◌<◌, Bool, true, false, ◌&&◌, ◌||◌, eqb, ltb, leb, ◌⊎◌, List, get_or, take, sym, refl, ap, ◌∙◌, subst, inl, inr, ⊎_elim, arith, ext_get_or}
+use native.Mathlib.Decide.{dec_lt}
 use Rattle.cause.specs.declared.Cause.{Cause}
-use Rattle.curve.specs.Points.{Points, Lawful, NoneBelow, month_breaks, haircut_breaks}
+use Rattle.curve.specs.Points.{Points, NoneBelow, month_breaks, haircut_breaks}
 use Rattle.curve.specs.Page.{Spelt, Page, First, Accepted, Refused, Written}
 use Rattle.curve.specs.Page.Refused.{shape, months, haircuts}
 

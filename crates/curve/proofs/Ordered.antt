@@ -5,14 +5,13 @@
 -- since a quotient rounded up rises with its dividend. Two months in one stretch are compared there, and
 -- two in different stretches by the points between them.
 
-use Rattle.std.proofs.Common.{◌≡◌, ℕ, zero, suc, ◌+◌, ◌-◌, ◌*◌, ◌/◌, ◌<◌, ◌≤◌, ltb, leb, ◌⊎◌, sym, refl, ap, ◌∙◌, subst, inl, inr, ⊎_elim, mul_comm, mul-le-mul_left, add-one, arith}
-use native.Mathlib.Decide.{dec_lt, dec_le}
+use Rattle.std.proofs.Common.{◌≡◌, ℕ, zero, suc, ◌+◌, ◌-◌, ◌<◌, ◌≤◌, ◌⊎◌, sym, refl, subst, inl, inr, ⊎_elim, mul_comm, mul-le-mul_left, add-one, arith}
+use native.Mathlib.Decide.{dec_lt}
 use native.Mathlib.Nat.{div-le_of_le-mul}
-use Rattle.curve.specs.Points.{Points, Lawful, NoneBelow, month_breaks, haircut_breaks, between, Haircut, Past}
+use Rattle.curve.specs.Points.{Points, Lawful, between, Haircut, Past}
 use Rattle.curve.specs.Points.Haircut.{at, inside}
 use Rattle.curve.specs.Lot.{collateral}
-use Rattle.curve.specs.Laws.{HaircutsRise, OneHaircut, BetweenNeighbours, UpToTheEnd, ValuesFall}
-use Rattle.curve.proofs.Rising.{month_next, month_first, haircut_next, haircut_low}
+use Rattle.curve.proofs.Rising.{month_next, month_first, haircut_next}
 use Rattle.curve.proofs.Rounding.{between_le, between_mono}
 
 module _ (c : Points) (law : Lawful c) where

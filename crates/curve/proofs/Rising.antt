@@ -1,9 +1,9 @@
 -- What the rules of a curve say of two of its points.
 
-use Rattle.std.proofs.Common.{◌≡◌, ℕ, zero, suc, ◌+◌, ◌-◌, ◌<◌, ◌≤◌, Bool, true, false, ◌&&◌, ◌||◌, eqb, ltb, leb, ◌⊎◌, sym, subst, inl, inr, arith}
+use Rattle.std.proofs.Common.{◌≡◌, ℕ, ◌+◌, ◌-◌, ◌<◌, ◌≤◌, Bool, false, ◌&&◌, ◌||◌, ltb, leb, subst, arith}
 use Rattle.std.proofs.lemmas.Bool.Decides.{nat_tests}
 use Rattle.curve.specs.Points.{Points, NoneBelow, month_breaks, haircut_breaks, between, Haircut}
-use Rattle.curve.specs.Points.Haircut.{at, inside}
+use Rattle.curve.specs.Points.Haircut.{inside}
 
 neither : (a b : Bool) → (a || b) ≡ false → b ≡ false
 neither a b e = grind (arith, nat_tests)

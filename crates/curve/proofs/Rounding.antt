@@ -1,6 +1,6 @@
 -- Quotients rounded up.
 
-use Rattle.std.proofs.Common.{ℕ, suc, ◌+◌, ◌-◌, ◌*◌, ◌/◌, ◌<◌, ◌≤◌, mul-le-mul_right, div-lt_iff_lt-mul, add-mul, mul-le-mul_left, arith}
+use Rattle.std.proofs.Common.{ℕ, ◌+◌, ◌-◌, ◌*◌, ◌<◌, ◌≤◌, div-lt_iff_lt-mul, add-mul, mul-le-mul_left, arith}
 use native.Mathlib.Nat.{lt-div-mul-add}
 use Rattle.curve.specs.Points.{rounded_up_lem, between}
 

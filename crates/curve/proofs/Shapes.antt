@@ -1,6 +1,6 @@
 -- Bytes that are the page of no curve.
 
-use Rattle.std.proofs.Common.{◌≡◌, ℕ, ◌+◌, ◌*◌, ◌≤◌, true, false, ◌&&◌, eqb, ltb, leb, List, length, get_or, arith}
+use Rattle.std.proofs.Common.{◌≡◌, ℕ, ◌+◌, ◌*◌, ◌≤◌, false, ◌&&◌, eqb, ltb, leb, List, length, get_or, arith}
 use Rattle.std.proofs.lemmas.Bool.Decides.{nat_tests}
 use Rattle.cause.specs.declared.Cause.{Cause}
 use Rattle.curve.specs.Points.{Points, NoneBelow, month_breaks, haircut_breaks}

@@ -1,6 +1,6 @@
 -- Numbers spelt one after the other.
 
-use Rattle.std.proofs.Common.{◌≡◌, ℕ, ◌+◌, ◌*◌, ◌<◌, ◌≤◌, ◌≢◌, List, length, get_or, set, sym, subst, arith, get_or-set_other, get_or-set_same, below_more}
+use Rattle.std.proofs.Common.{◌≡◌, ℕ, ◌+◌, ◌*◌, ◌<◌, ◌≢◌, List, length, get_or, set, subst, arith, get_or-set_other, get_or-set_same, below_more}
 use Rattle.curve.specs.Page.{Spelt}
 
 -- one more number is spelt, and written down

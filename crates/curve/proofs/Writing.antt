@@ -3,7 +3,7 @@
 use Rattle.std.proofs.Common.{◌≡◌, ℕ, ◌+◌, ◌*◌, ◌<◌, ◌≤◌, ◌≢◌, List, length, get_or, take, drop, set, sym, ap, ◌∙◌, arith, length-set, get_or-drop, get_or-set_other, get_or-take, get_or-set_same, ext_get_or}
 use Rattle.std.proofs.lemmas.List.{length-take-le, length-drop}
 use Rattle.curve.specs.Points.{Points}
-use Rattle.curve.specs.Page.{Spelt, Page, Written}
+use Rattle.curve.specs.Page.{Spelt, Written}
 use Rattle.curve.specs.Changes.{Kept}
 
 -- the front of a buffer spells what the buffer spells

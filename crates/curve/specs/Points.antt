@@ -1,6 +1,6 @@
 -- To believe: what a lawful haircut curve is, and which haircut it has at a month.
 
-use Rattle.std.specs.Prelude.{◌≡◌, ℕ, ◌+◌, ◌-◌, ◌*◌, ◌/◌, ◌<◌, ◌≤◌, Bool, true, false, ◌&&◌, ◌||◌, List, ◌==◌, nat_le, nat_lt, slice_index}
+use Rattle.std.specs.Prelude.{◌≡◌, ℕ, ◌+◌, ◌-◌, ◌*◌, ◌/◌, ◌<◌, ◌≤◌, Bool, false, ◌&&◌, ◌||◌, List, ◌==◌, nat_le, nat_lt, slice_index}
 
 -- the points of a curve: how many, the month of each and its haircut in ten-thousandths
 pub record Points : Type 0 where

@@ -1,5 +1,6 @@
 // Haircut curves: the page they travel in, the haircut at a month, the curve card, and a lot's
 // collateral value.
+#![tactic(auto)]
 
 pub mod card;
 pub mod curve;

@@ -1,5 +1,6 @@
 // Curves tried by hand and by a second method: pages at their edges, buffers, lots at their ranges, and
 // curves from a seed, whose haircuts are found once more by stepping from month to month.
+#![tactic(auto)]
 
 mod draw;
 mod lots;

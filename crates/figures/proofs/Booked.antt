@@ -1,32 +1,27 @@
 -- The book's figures. An amount is granted by a table that covers. It is short by 1 by a table that leaves 1, and by a record: no lawful
 -- table leaves less than a record explains. What allocating answers then follows from the law over allocations.
 
-use Rattle.std.proofs.Common.{◌≡◌, ℕ, zero, suc, ◌+◌, ◌-◌, ◌*◌, ◌/◌, ◌<◌, ◌≤◌, Bool, true, false, cond, ◌&&◌, ◌||◌, eqb, ltb, ◌⊎◌, List, [], ◌∷◌, length, get_or, replicate, is_some, Some, None, Option, sym, refl, ap, ◌∙◌, subst, inl, inr, arith}
+use Rattle.std.proofs.Common.{◌≡◌, ℕ, suc, ◌+◌, ◌*◌, ◌/◌, ◌<◌, ◌≤◌, true, false, cond, ◌||◌, eqb, ltb, [], ◌∷◌, get_or, is_some, None, refl, ap, ◌∙◌, subst, inl, inr, arith}
 use Rattle.std.proofs.lemmas.Bool.{cases_eq, false≢true, both_ways, ltb-false, le-ltb, ne_eqb, and_parts, and_left, and_right, cond_both}
 use Rattle.cause.specs.declared.Cause.TheVariants.{ListShort}
-use Rattle.grammar.specs.declared.Description.{Description}
 use Rattle.network.specs.Sums.{sum_over, when}
 use Rattle.network.proofs.Sums.{hit, miss, sum_none}
 use Rattle.binder.specs.Meaning.{Meaning, in_range}
 use Rattle.binder.specs.Meaning as meaning
-use Rattle.table.specs.Table.{Situation, Table, Lawful, Covers, Shortage, allowed, of_issuer, owed, pledged, uncovered}
+use Rattle.table.specs.Table.{Situation, Table, Lawful, Shortage, allowed, of_issuer, owed, pledged}
 use Rattle.table.specs.Drawn.{slot, leads}
 use Rattle.table.specs.Record.{Marks, Explains}
 use Rattle.table.proofs.Sums.{when_low, grid_none}
 use Rattle.table.proofs.Slots.{least_first, slot_leads}
 use Rattle.table.proofs.Tables.{covers_all_lem}
 use Rattle.table.proofs.Record.{record_binds_lem}
-use Rattle.cover.specs.declared.record.Record.{Record}
-use Rattle.calls.specs.declared.Instruction.{Instruction}
 use Rattle.calls.specs.State.{State}
 use Rattle.calls.specs.Situation.{situation, amount_of}
-use Rattle.calls.specs.Call.{Outcome, held_lots, open_exposures, first, cause}
-use Rattle.calls.specs.Call.Call.{allocate, settle}
-use Rattle.calls.specs.Call.Outcome.{short, allocated}
-use Rattle.calls.specs.Step.{Step}
-use Rattle.calls.specs.Life.{Coverable, slip_of_run}
+use Rattle.calls.specs.Call.{held_lots, open_exposures, first}
+use Rattle.calls.specs.Call.Outcome.{short}
+use Rattle.calls.specs.Life.{Coverable}
 use Rattle.calls.proofs.Allocations.{allocates}
-use Rattle.figures.specs.Books.{schedules, book, one, two, Granted, ShortBy, Against, BookFigures}
+use Rattle.figures.specs.Books.{schedules, one, two, Granted, ShortBy, Against, BookFigures}
 use Rattle.figures.proofs.Places.{lots, exposures, none_at, over_lots, over_exposures, over_both}
 
 -- what allocating answers

@@ -1,19 +1,19 @@
 -- The curve's figures. A month's haircut is found by going through its three points and the two gaps
 -- between them: each that does not hold the month is ruled out by its ends.
 
-use Rattle.std.proofs.Common.{◌≡◌, ℕ, zero, suc, ◌+◌, ◌-◌, ◌*◌, ◌/◌, ◌<◌, ◌≤◌, false, List, [], ◌∷◌, sym, refl, ap, ◌∙◌, subst, arith}
+use Rattle.std.proofs.Common.{◌≡◌, ℕ, zero, suc, ◌+◌, ◌*◌, ◌<◌, false, sym, refl, ap, ◌∙◌, subst, arith}
 use Rattle.cause.specs.Numbers.{number}
 use Rattle.cause.specs.declared.Cause.{Cause}
-use Rattle.cause.specs.declared.Cause.TheVariants.{FieldOutside, PastCurve}
+use Rattle.cause.specs.declared.Cause.TheVariants.{PastCurve}
 use Rattle.curve.proofs.Ordered.{one, none_past}
-use Rattle.curve.specs.Points.{Points, Lawful, NoneBelow, month_breaks, haircut_breaks, Haircut, Past}
-use Rattle.curve.specs.Points.Haircut.{at, inside}
-use Rattle.curve.specs.Page.{Page, Spelt, Accepted}
-use Rattle.curve.specs.Lot.{InRange, lot_of, collateral, Priced, Unpriced}
+use Rattle.curve.specs.Points.{Points, month_breaks, haircut_breaks, Haircut, Past}
+use Rattle.curve.specs.Points.Haircut.{inside}
+use Rattle.curve.specs.Page.{Spelt, Accepted}
+use Rattle.curve.specs.Lot.{lot_of, collateral, Priced, Unpriced}
 use Rattle.curve.specs.Lot.Unpriced.{outside, past}
 use Rattle.curve.specs.declared.lot.Terms.{Terms}
 use Rattle.curve.specs.declared.lot.Lot.{Lot}
-use Rattle.figures.specs.Curves.{page, curve, Offered, Worth, RefusedBy, Only, CurveFigures}
+use Rattle.figures.specs.Curves.{page, curve, Offered, Only, CurveFigures}
 
 -- what holds at 0, 1 and 2 holds below 3
 three : (P : ℕ → Type 0) → P 0 → P 1 → P 2 → (j : ℕ) → j < 3 → P j

@@ -1,6 +1,6 @@
 -- Sums over 64 lot places and 16 exposure places, of which only the first three and the first two count.
 
-use Rattle.std.proofs.Common.{◌≡◌, ℕ, zero, suc, ◌+◌, ◌<◌, List, [], ◌∷◌, get_or, replicate, None, Option, refl, ap, ◌∙◌, arith}
+use Rattle.std.proofs.Common.{◌≡◌, ℕ, zero, suc, ◌+◌, ◌<◌, get_or, replicate, None, Option, refl, ap, ◌∙◌, arith}
 use Rattle.network.specs.Sums.{sum_over}
 use Rattle.network.proofs.Sums.{sum_none}
 use Rattle.table.proofs.Sums.{sum_join}

@@ -1,6 +1,6 @@
 -- To believe: nothing. Figures of one book: three lots and one or two exposures, while a run is open.
 
-use Rattle.std.specs.Prelude.{◌≡◌, ℕ, Bool, true, cond, ◌&&◌, ◌||◌, List, [], ◌∷◌, length, replicate, Some, None, Option, ◌==◌, nat_lt}
+use Rattle.std.specs.Prelude.{◌≡◌, ℕ, true, cond, ◌&&◌, ◌||◌, List, ◌∷◌, length, replicate, Some, None, Option, ◌==◌, nat_lt}
 use Rattle.cause.specs.Numbers.{number}
 use Rattle.cause.specs.declared.Cause.{Cause}
 use Rattle.cause.specs.declared.Cause.TheVariants.{ListShort}

@@ -1,4 +1,5 @@
 // The worked figures, proved of the definitions that the contracts cite.
+#![tactic(auto)]
 
 ghost use Rattle.figures.specs.Table.{Figures};
 

@@ -1,14 +1,14 @@
 -- The breadth-first search. The queue holds the marked nodes, each once, by their layers; so it is as long as there are marked nodes, and a
 -- node that has no mark yet leaves room in it. A node that is met again was queued before, and is near because the queue is sorted.
 
-use Rattle.std.proofs.Common.{◌≡◌, ℕ, zero, suc, ◌+◌, ◌-◌, ◌*◌, ◌^◌, ◌<◌, ◌≤◌, Bool, true, false, cond, ltb, ◌⊎◌, List, sym, refl, ap, ◌∙◌, subst, inl, inr, arith}
-use Rattle.std.proofs.lemmas.Bool.{cases_eq, cases_lt}
+use Rattle.std.proofs.Common.{◌≡◌, ℕ, ◌+◌, ◌*◌, ◌^◌, ◌<◌, ◌≤◌, ltb, List, sym, ap, ◌∙◌, subst, inl, inr, arith}
+use Rattle.std.proofs.lemmas.Bool.{cases_eq}
 use Rattle.std.proofs.lemmas.Bool.Decides.{nat_tests}
-use Rattle.network.specs.Sums.{sum_over, when}
+use Rattle.network.specs.Sums.{when}
 use Rattle.network.specs.Flow.{Net, Sound}
-use Rattle.network.specs.Residual.{from, to, room, Layers, Listed}
+use Rattle.network.specs.Residual.{from, to, room, Listed}
 use Rattle.network.proofs.Sums.{sum_change, sum_le, sum_lt, sum_none, sum_ones}
-use Rattle.network.proofs.Residual.{from_in, to_in}
+use Rattle.network.proofs.Residual.{to_in}
 use Rattle.flow.specs.Lists.{at}
 use Rattle.flow.specs.Lawful.{Lawful}
 use Rattle.flow.specs.Search.{Settled, Bfs}

@@ -2,12 +2,12 @@
 -- A node is given up when its cursor has passed its last arc, so from such a node no arcs with room lead to the sink a layer at a time. When
 -- the source is given up, all is blocked. What is sent along such arcs takes room from them only, so dead arcs stay dead.
 
-use Rattle.std.proofs.Common.{◌≡◌, ℕ, zero, suc, ◌+◌, ◌-◌, ◌*◌, ◌^◌, ◌<◌, ◌≤◌, ◌⊎◌, List, length, set, sym, refl, ap, ◌∙◌, subst, inl, inr, add-one, arith, length-set}
+use Rattle.std.proofs.Common.{◌≡◌, ℕ, suc, ◌+◌, ◌-◌, ◌*◌, ◌^◌, ◌<◌, ◌≤◌, List, length, set, sym, refl, ap, ◌∙◌, subst, inl, inr, arith, length-set}
 use Rattle.std.proofs.lemmas.Bool.{cases_eq, cases_lt}
 use Rattle.network.specs.Sums.{sum_over}
-use Rattle.network.specs.Flow.{Net, Sound}
+use Rattle.network.specs.Flow.{Net}
 use Rattle.network.specs.Residual.{from, to, room, Listed}
-use Rattle.network.specs.Augment.{Onward, Trail, stop, Sent, Leads, Blocked}
+use Rattle.network.specs.Augment.{Onward, stop, Sent, Leads, Blocked}
 use Rattle.network.specs.Augment.Leads.{here, on}
 use Rattle.network.proofs.Sums.{sum_change, sum_le}
 use Rattle.network.proofs.Residual.{from_in, to_in}

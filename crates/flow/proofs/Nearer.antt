@@ -5,13 +5,13 @@
 -- one are no nearer than the sink. Such nodes are on no layered path to the sink, so the marks and the true layers have the same layered
 -- paths to it; and what the marks block, the true layers find blocked.
 
-use Rattle.std.proofs.Common.{◌≡◌, ℕ, zero, suc, ◌+◌, ◌-◌, ◌*◌, ◌<◌, ◌≤◌, ◌⊎◌, sym, refl, ap, ◌∙◌, subst, inl, inr, arith}
-use Rattle.std.proofs.lemmas.Bool.{cases_eq, cases_lt}
+use Rattle.std.proofs.Common.{◌≡◌, ℕ, zero, suc, ◌+◌, ◌-◌, ◌*◌, ◌<◌, ◌≤◌, sym, ap, subst, inl, inr, arith}
+use Rattle.std.proofs.lemmas.Bool.{cases_lt}
 use Rattle.network.specs.Flow.{Net, Sound, Flow}
-use Rattle.network.specs.Residual.{from, to, room, Walk, Distances, Layers}
+use Rattle.network.specs.Residual.{from, to, Walk, Distances, Layers}
 use Rattle.network.specs.Residual.Walk.{stay, step}
 use Rattle.network.specs.Round.{Round}
-use Rattle.network.specs.Augment.{Onward, Leads, Blocked}
+use Rattle.network.specs.Augment.{Onward, Leads}
 use Rattle.network.specs.Augment.Leads.{here, on}
 use Rattle.network.proofs.Residual.{from_in, to_in}
 use Rattle.network.proofs.Layers.{layers_distances, distance, distances, walk_in}

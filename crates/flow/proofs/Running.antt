@@ -1,9 +1,9 @@
 -- Between rounds.
 
-use Rattle.std.proofs.Common.{◌≡◌, ℕ, suc, ◌+◌, ◌-◌, ◌<◌, ◌≤◌, sym, refl, ap, ◌∙◌, subst, add-one, arith}
+use Rattle.std.proofs.Common.{◌≡◌, ℕ, ◌+◌, ◌<◌, sym, refl, subst, add-one}
 use Rattle.network.specs.Sums.{Agree}
 use Rattle.network.specs.Flow.{Net, Sound, Flow}
-use Rattle.network.specs.Round.{Round, Rounds}
+use Rattle.network.specs.Round.{Rounds}
 use Rattle.network.specs.Round.Rounds.{none, more}
 use Rattle.network.proofs.Cut.{max_min}
 use Rattle.network.proofs.Rounds.{rounds_few}

@@ -1,6 +1,6 @@
 -- Sending along a path that comes to the sink, and going on from the first arc that was filled.
 
-use Rattle.std.proofs.Common.{◌≡◌, ℕ, zero, suc, ◌+◌, ◌-◌, ◌*◌, ◌/◌, ◌%◌, ◌<◌, ◌≤◌, eqb, ◌⊎◌, List, length, set, sym, refl, ap, ◌∙◌, subst, inl, inr, arith}
+use Rattle.std.proofs.Common.{◌≡◌, ℕ, ◌+◌, ◌-◌, ◌*◌, ◌/◌, ◌%◌, ◌<◌, ◌≤◌, eqb, List, length, set, sym, ◌∙◌, subst, inl, inr, arith}
 use Rattle.std.proofs.lemmas.Bool.{cases_lt}
 use Rattle.network.specs.Flow.{Net, Sound, Flow, Less, out_of, into, capacity}
 use Rattle.network.specs.Residual.{room}
@@ -11,7 +11,7 @@ use Rattle.network.proofs.Augment.{push_even, push_odd, trail_less, sent_flow, s
 use Rattle.flow.specs.Lists.{at}
 use Rattle.flow.specs.Lawful.{Lawful}
 use Rattle.flow.specs.Blocking.{Walking, Descended, Least, Filled}
-use Rattle.flow.specs.ListsLemmas.{Put, put}
+use Rattle.flow.specs.ListsLemmas.{put}
 use Rattle.flow.proofs.Blocking.{sent_cursors}
 
 -- one residual arc

@@ -1,10 +1,9 @@
 -- To believe: what building a list of arcs does.
 
 use Prim.{Unit}
-use Rattle.std.specs.Prelude.{◌≡◌, ℕ, ◌+◌, ◌^◌, ◌<◌, ◌≤◌, Bool, cond, not, ◌&&◌, ◌||◌, Some, None, Ok, Err, Option, Result, ◌==◌, ◌≢◌, nat_le, nat_lt}
+use Rattle.std.specs.Prelude.{◌≡◌, ℕ, ◌+◌, ◌^◌, ◌<◌, ◌≤◌, cond, not, ◌&&◌, Some, None, Ok, Err, Option, Result, ◌==◌, ◌≢◌, nat_le, nat_lt}
 use Rattle.network.specs.Flow.{Net}
 use Rattle.network.specs.Same.{Same}
-use Rattle.flow.specs.Lists.{at}
 use Rattle.flow.specs.Stored.{listed_net, with_arc}
 use Rattle.flow.specs.declared.stored.ArcList.{ArcList}
 use Rattle.flow.specs.declared.stored.arcs.Unfit.{Unfit}

@@ -1,6 +1,6 @@
 -- To believe: what a network has to be like for the code to run on it.
 
-use Rattle.std.specs.Prelude.{◌≡◌, ℕ, ◌^◌, ◌<◌}
+use Rattle.std.specs.Prelude.{ℕ, ◌^◌, ◌<◌}
 use Rattle.network.specs.Flow.{Net, Sound}
 use Rattle.network.specs.Residual.{Listed}
 

@@ -1,14 +1,14 @@
 -- A stored network is lawful; and what an arc more makes of a list.
 
-use Rattle.std.specs.Prelude.{◌≡◌, ℕ, ◌+◌, ◌*◌, ◌^◌, ◌<◌, ◌≤◌, ◌⊎◌, List, length, ◌==◌, ◌≢◌, slice_set, refl}
-use Rattle.std.proofs.Common.{sym, ap, subst, ◌∙◌, inl, inr, arith, length-set}
+use Rattle.std.specs.Prelude.{◌≡◌, ℕ, ◌+◌, ◌*◌, ◌<◌, List, length, ◌==◌, ◌≢◌, slice_set, refl}
+use Rattle.std.proofs.Common.{sym, ap, ◌∙◌, inl, inr, arith, length-set}
 use Rattle.std.proofs.lemmas.Bool.{cases_eq, cond-true, cond-false, eq-eqb, ne_eqb}
 use Rattle.network.specs.Sums.{sum_over}
 use Rattle.network.specs.Same.{Same}
 use Rattle.network.proofs.Sums.{sum_term, sum_same, sum_more}
 use Rattle.flow.specs.Lists.{at}
 use Rattle.flow.specs.Lawful.{Lawful}
-use Rattle.flow.specs.Stored.{listed_net, with_arc, Joins, origin, count, Degrees, Starts}
+use Rattle.flow.specs.Stored.{listed_net, with_arc, Joins, origin, Degrees, Starts}
 use Rattle.flow.specs.Built.{net_of}
 use Rattle.flow.specs.declared.stored.ArcList.{ArcList}
 use Rattle.flow.specs.declared.stored.StoredNetwork.{StoredNetwork}

@@ -8,6 +8,7 @@
 //!
 //! What flows, cuts and rounds are is defined in the crate `network`, with the laws that this rests on. `ArcList` and `StoredNetwork` are a
 //! network kept in arrays, of up to 2,048 nodes and 4,096 arcs. Capacities are any u64; those of a stored network add up to one.
+#![tactic(auto)]
 
 mod block;
 mod layers;

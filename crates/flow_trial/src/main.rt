@@ -1,4 +1,5 @@
 //! Tries the solver on networks with known answers, and on networks made from a seed against two other methods.
+#![tactic(auto)]
 
 mod graph;
 mod second;

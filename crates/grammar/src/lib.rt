@@ -1,5 +1,6 @@
 // Rule texts: which texts are rules, what they say of a lot, and where a text is at fault. The
 // definitions stand in specs/, and the functions here carry the laws that they are shown to have.
+#![tactic(auto)]
 
 ghost use Rattle.grammar.specs.Figures.{Figures};
 ghost use Rattle.grammar.specs.Laws.{OneFault, OneMeaning, OneTree, Precedence};

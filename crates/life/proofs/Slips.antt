@@ -1,6 +1,6 @@
 -- Orders as calls, and the slip that is held after each.
 
-use Rattle.std.proofs.Common.{◌≡◌, ℕ, Bool, true, false, cond, not, ◌&&◌, eqb, leb, ◌⊎◌, List, [], ◌++◌, take, Some, None, Ok, Err, Option, Result, sym, refl, ap, ◌∙◌, subst, inl, inr, ⊎_elim, append_assoc, append-nil, arith, eq-eqb}
+use Rattle.std.proofs.Common.{◌≡◌, ℕ, Bool, true, false, cond, not, ◌&&◌, eqb, leb, List, [], take, Some, None, Ok, Err, Option, Result, sym, refl, ap, ◌∙◌, subst, inl, inr, arith, eq-eqb}
 use Rattle.std.proofs.lemmas.Bool.{eqb-true}
 use Rattle.cause.specs.declared.Cause.{Cause}
 use Rattle.cause.specs.declared.Cause.TheVariants.{RunOpen, RunsSpent, SlipStale}
@@ -16,7 +16,7 @@ use Rattle.calls.specs.Call.Outcome.{refused, short, added, withdrawn, exposed, 
 use Rattle.calls.specs.Step.{Step, Decided, Grants}
 use Rattle.book.specs.View.{numbers}
 use Rattle.book.specs.declared.slip.Slip.{Slip}
-use Rattle.life.specs.Turn.{slip_of, with_slip, call_of, told, count_of, Turn, made, idle}
+use Rattle.life.specs.Turn.{slip_of, with_slip, told, count_of, Turn, made, idle}
 use Rattle.life.specs.Matched.{has_slip}
 use Rattle.life.specs.Reported.{reported}
 use Rattle.book.specs.Answers.{allocating}

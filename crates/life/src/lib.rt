@@ -1,5 +1,6 @@
 // A book at work: orders are carried out one after the other on one book under one binder, and the
 // law over all lives of a book holds of every session.
+#![tactic(auto)]
 
 pub mod order;
 pub mod session;

@@ -1,6 +1,6 @@
 -- A binder of any kind is lawful: by induction over its parts, each kind by its own lemma.
 
-use Rattle.binder.specs.Meaning.{Meaning, Lawful}
+use Rattle.binder.specs.Meaning.{Lawful}
 use Rattle.binder.specs.Lawfuls.{single_lawful, without_lawful, joined_lawful}
 use Rattle.named.specs.Any.{any_meaning}
 use Rattle.named.specs.declared.AnyBinder.{AnyBinder}

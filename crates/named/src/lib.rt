@@ -1,5 +1,6 @@
 // A binder of any kind, as a program builds it from parts that are known only when it runs: a rating
 // table, a rule schedule, an exclusion over a binder, or a pair of binders.
+#![tactic(auto)]
 
 ghost use Rattle.std.specs.Prelude.{◌≡◌, IfOk};
 ghost use Rattle.binder.specs.Issuers.{listed};

@@ -1,14 +1,14 @@
 -- Sending more along residual arcs. Each arc of a trail leaves another layer, and of the two residual arcs of an arc one at most goes
 -- a layer on. So what is sent along one arc of the trail leaves the room of the others as it was, and all of them can be sent the same.
 
-use Rattle.std.proofs.Common.{◌≡◌, ℕ, zero, suc, ◌+◌, ◌-◌, ◌*◌, ◌/◌, ◌%◌, ◌<◌, ◌≤◌, Bool, true, false, cond, eqb, ◌⊎◌, sym, refl, ap, ◌∙◌, subst, inl, inr, add-one, arith}
-use Rattle.std.proofs.lemmas.Bool.{cases_eq, cases_lt, eq-eqb, ne_eqb, cond-true, cond-false}
-use Rattle.network.specs.Sums.{sum_over, when}
-use Rattle.network.specs.Flow.{Net, over, out_of, into, Sound, Flow, Less}
+use Rattle.std.proofs.Common.{◌≡◌, ℕ, zero, suc, ◌+◌, ◌-◌, ◌*◌, ◌/◌, ◌<◌, ◌≤◌, Bool, eqb, sym, refl, ap, ◌∙◌, subst, inl, inr, add-one, arith}
+use Rattle.std.proofs.lemmas.Bool.{cases_eq, eq-eqb, ne_eqb, cond-true, cond-false}
+use Rattle.network.specs.Sums.{when}
+use Rattle.network.specs.Flow.{Net, over, Sound, Flow, Less}
 use Rattle.network.specs.Residual.{from, to, room, way}
 use Rattle.network.specs.Augment.{Onward, Pushed, Trail, stop, Sent}
 use Rattle.network.proofs.Sums.{sum_change, when_add}
-use Rattle.network.proofs.Residual.{from_in, to_in, from_even, from_odd, to_even, to_odd, room_even, room_odd, parity, turned, way_even, way_odd}
+use Rattle.network.proofs.Residual.{to_in, from_even, from_odd, to_even, to_odd, room_even, room_odd, turned}
 
 over_change : (m k : ℕ) (e : ℕ → ℕ) (S : ℕ → Bool) (f f' : ℕ → ℕ) → k < m → ((j : ℕ) → (j ≡ k → ⊥) → f' j ≡ f j) → over m e S f' + when (S (e k)) (f k) ≡ over m e S f + when (S (e k)) (f' k)
 unfolding over

@@ -6,8 +6,8 @@
 -- same arc lost room, so that one is layered; but of the two only one goes a layer on. So arcs that lead to the sink now are a layered
 -- path of before, with no full arc.
 
-use Rattle.std.proofs.Common.{◌≡◌, ℕ, zero, suc, ◌+◌, ◌-◌, ◌*◌, ◌/◌, ◌<◌, ◌≤◌, ◌⊎◌, List, [], ◌∷◌, length, get_or, sym, refl, ap, ◌∙◌, subst, inl, inr, arith}
-use Rattle.std.proofs.lemmas.Bool.{cases_eq, cases_lt}
+use Rattle.std.proofs.Common.{◌≡◌, ℕ, zero, suc, ◌+◌, ◌-◌, ◌*◌, ◌/◌, ◌<◌, ◌⊎◌, List, [], ◌∷◌, length, get_or, sym, ap, ◌∙◌, subst, inl, inr, arith}
+use Rattle.std.proofs.lemmas.Bool.{cases_lt}
 use Rattle.network.specs.Flow.{Net, Sound, Flow}
 use Rattle.network.specs.Residual.{ahead, back, from, to, room, Walk, Distances}
 use Rattle.network.specs.Residual.Walk.{stay, step}

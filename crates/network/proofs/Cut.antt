@@ -5,11 +5,10 @@
 -- back, is the capacity of S, and it is the value (the balance of a cut). No flow's value passes this capacity, so the flow is maximum;
 -- no cut has less capacity than the value, so S is minimum.
 
-use Rattle.std.proofs.Common.{◌≡◌, ℕ, zero, suc, ◌+◌, ◌-◌, ◌*◌, ◌<◌, ◌≤◌, Bool, true, false, not, ◌&&◌, ltb, ◌⊎◌, sym, refl, ap, ◌∙◌, subst, inl, inr, arith}
+use Rattle.std.proofs.Common.{◌≡◌, ℕ, ◌+◌, ◌*◌, ◌<◌, Bool, ltb, inl, inr, arith}
 use Rattle.std.proofs.lemmas.Bool.{lt-ltb, le-ltb, cases_lt}
 use Rattle.std.proofs.lemmas.Bool.Decides.{nat_tests}
-use Rattle.network.specs.Sums.{sum_over, when}
-use Rattle.network.specs.Flow.{Net, over, out_of, into, across, Sound, Flow, Cut, value, capacity, Maximum, Minimum}
+use Rattle.network.specs.Flow.{Net, over, across, Sound, Flow, Cut, value, capacity, Maximum, Minimum}
 use Rattle.network.specs.Residual.{from, to, room, Walk, Distances}
 use Rattle.network.specs.Residual.Walk.{stay, step}
 use Rattle.network.proofs.Sums.{sum_same, sum_none}

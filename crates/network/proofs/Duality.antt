@@ -5,10 +5,10 @@
 -- An arc within the cut counts on both sides. What is left is that the value is what the flow sends out of the cut, less what it
 -- sends back into it. No arc carries more than its capacity, so the first is at most the cut's capacity, and the second at least 0.
 
-use Rattle.std.proofs.Common.{◌≡◌, ℕ, zero, suc, ◌+◌, ◌-◌, ◌<◌, ◌≤◌, Bool, true, false, cond, not, ◌&&◌, eqb, ltb, ◌⊎◌, sym, refl, ap, ◌∙◌, subst, inl, inr, arith}
+use Rattle.std.proofs.Common.{◌≡◌, ℕ, zero, suc, ◌+◌, ◌<◌, ◌≤◌, Bool, true, false, not, ◌&&◌, eqb, ltb, sym, refl, ap, ◌∙◌, inl, inr, arith}
 use Rattle.std.proofs.lemmas.Bool.{cases_eq, cases_Bool, both_ways, eq-eqb, ne_eqb}
 use Rattle.std.proofs.lemmas.Bool.Decides.{nat_tests}
-use Rattle.network.specs.Sums.{sum_over, when}
+use Rattle.network.specs.Sums.{when}
 use Rattle.network.specs.Flow.{Net, over, out_of, into, across, Sound, Flow, Cut, value, capacity}
 use Rattle.network.proofs.Sums.{sum_four, sum_le, sum_zero, sum_none, sum_same, when_le}
 

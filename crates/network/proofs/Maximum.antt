@@ -3,7 +3,7 @@
 -- Where one comes there, a shortest one does too. Its arcs go one layer on each, so that one more can be sent along all of them
 -- together. That is a flow whose value is greater by one.
 
-use Rattle.std.proofs.Common.{◌≡◌, ℕ, zero, suc, ◌+◌, ◌-◌, ◌*◌, ◌/◌, ◌<◌, ◌≤◌, Bool, true, false, cond, eqb, ◌⊎◌, sym, refl, ap, ◌∙◌, subst, inl, inr, add-one, arith}
+use Rattle.std.proofs.Common.{◌≡◌, ℕ, zero, suc, ◌+◌, ◌-◌, ◌*◌, ◌/◌, ◌<◌, ◌≤◌, cond, eqb, sym, refl, ap, ◌∙◌, subst, inl, inr, add-one, arith}
 use Rattle.std.proofs.lemmas.Bool.{cond-true, cond-false, eq-eqb, ne_eqb}
 use Rattle.network.specs.Flow.{Net, Sound, Flow, Less, Maximum}
 use Rattle.network.specs.Residual.{way, from, to, room, Walk, Distances}
@@ -11,7 +11,7 @@ use Rattle.network.specs.Residual.Walk.{stay, step}
 use Rattle.network.specs.Augment.{Onward, Pushed, Trail, stop, Sent}
 use Rattle.network.proofs.Residual.{from_in, parity, way_even, way_odd, room_even, room_odd}
 use Rattle.network.proofs.Layers.{distance, distances, first_mark}
-use Rattle.network.proofs.Augment.{push_even, push_odd, Sending, send_start, send_more, sent_flow, sent_less, trail_none, trail_on, trail_end}
+use Rattle.network.proofs.Augment.{push_even, push_odd, Sending, send_start, send_more, sent_flow, sent_less, trail_none, trail_on}
 
 -- a shortest walk is a trail
 module _ (N : Net) (f mark : ℕ → ℕ) (s : Sound N) (l : Distances N f mark) where

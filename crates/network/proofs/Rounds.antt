@@ -1,16 +1,16 @@
 -- What rounds do: the value grows, the sink moves away, and so there are few of them.
 
-use Rattle.std.proofs.Common.{◌≡◌, ℕ, zero, suc, ◌+◌, ◌-◌, ◌*◌, ◌/◌, ◌<◌, ◌≤◌, Bool, true, false, cond, not, ◌&&◌, eqb, ltb, leb, ◌⊎◌, List, [], ◌∷◌, length, get_or, sym, refl, ap, ◌∙◌, subst, inl, inr, arith}
-use Rattle.std.proofs.lemmas.Bool.{cases_eq, cases_lt, cases_Bool, lt-ltb, lt-leb, le-leb, le-ltb, and_from, and_right}
+use Rattle.std.proofs.Common.{◌≡◌, ℕ, zero, suc, ◌+◌, ◌-◌, ◌*◌, ◌/◌, ◌<◌, ◌≤◌, Bool, true, not, ◌&&◌, ltb, leb, List, length, get_or, sym, refl, ap, ◌∙◌, inl, inr, arith}
+use Rattle.std.proofs.lemmas.Bool.{cases_eq, cases_lt, lt-leb, and_right}
 use Rattle.std.proofs.lemmas.Bool.Decides.{nat_tests}
-use Rattle.network.specs.Sums.{sum_over, when, Agree}
+use Rattle.network.specs.Sums.{sum_over, when}
 use Rattle.network.specs.Flow.{Net, over, across, Sound, Flow, Less, Cut}
-use Rattle.network.specs.Residual.{ahead, back, from, to, room, Walk, Distances}
+use Rattle.network.specs.Residual.{from, to, room, Walk, Distances}
 use Rattle.network.specs.Residual.Walk.{stay, step}
 use Rattle.network.specs.Round.{Layered, Path, Round, Rounds}
 use Rattle.network.specs.Round.Path.{end, next}
 use Rattle.network.specs.Round.Rounds.{none, more}
-use Rattle.network.specs.Augment.{Onward, Leads, Blocked}
+use Rattle.network.specs.Augment.{Leads}
 use Rattle.network.specs.Augment.Leads.{here, on}
 use Rattle.network.proofs.Sums.{sum_lt, sum_plus, sum_term, sum_ones}
 use Rattle.network.proofs.Duality.{cut_balance, against}

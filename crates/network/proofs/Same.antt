@@ -1,11 +1,11 @@
 -- Networks that are the same on their arcs: sums over arcs, rooms, walks, layers and paths speak of arcs alone, so all of them carry over.
 
-use Rattle.std.proofs.Common.{◌≡◌, ℕ, zero, suc, ◌+◌, ◌-◌, ◌*◌, ◌/◌, ◌<◌, ◌≤◌, Bool, eqb, List, [], ◌∷◌, length, get_or, sym, refl, ap, ◌∙◌, subst, arith}
+use Rattle.std.proofs.Common.{◌≡◌, ℕ, zero, suc, ◌-◌, ◌*◌, ◌/◌, ◌<◌, Bool, eqb, List, [], ◌∷◌, length, get_or, sym, refl, ap, ◌∙◌, subst, arith}
 use Rattle.network.specs.Sums.{sum_over, when, Agree}
-use Rattle.network.specs.Flow.{Net, over, out_of, into, Flow, value, AtMost, Maximum}
+use Rattle.network.specs.Flow.{Net, over, out_of, into, Flow, value, Maximum}
 use Rattle.network.specs.Residual.{ahead, back, way, from, to, room, Walk, Distances}
 use Rattle.network.specs.Residual.Walk.{stay, step}
-use Rattle.network.specs.Round.{Layered, Path, HasFull, Round, Rounds}
+use Rattle.network.specs.Round.{Layered, Path, Round, Rounds}
 use Rattle.network.specs.Round.Path.{end, next}
 use Rattle.network.specs.Round.Rounds.{none, more}
 use Rattle.network.specs.Same.{Same}

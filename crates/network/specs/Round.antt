@@ -1,7 +1,7 @@
 -- To believe: what a round is. The layers of the flow reach the sink, and a blocking flow of the layered network is added: what
 -- changed lies on layered arcs alone, and every layered path from source to sink has a full arc then.
 
-use Rattle.std.specs.Prelude.{◌≡◌, ℕ, zero, suc, ◌+◌, ◌*◌, ◌<◌, List, [], ◌∷◌, length, slice_index}
+use Rattle.std.specs.Prelude.{◌≡◌, ℕ, suc, ◌+◌, ◌*◌, ◌<◌, List, [], ◌∷◌, length, slice_index}
 use Rattle.network.specs.Sums.{Agree}
 use Rattle.network.specs.Flow.{Net, Flow}
 use Rattle.network.specs.Residual.{ahead, back, from, to, room, Distances}

@@ -3,6 +3,7 @@
 //! The definitions stand in `specs/`, in Ford and Fulkerson's terms: networks, flows, cuts, residual arcs, layers, and the rounds
 //! by which Dinic's method makes a flow maximum. Each function below has a law for its contract; the proofs stand in `proofs/`,
 //! each under the argument in words.
+#![tactic(auto)]
 
 ghost use Rattle.network.specs.Laws.{WeakDuality, MaximumExactly, LayersAreDistances, LayersExist, MaxFlowMinCut, RoundGains, RoundTakesSinkFarther, RoundsAreFew, SameNetworks};
 

@@ -1,4 +1,5 @@
 // `pledge FILE` plays a day of one pledge book from a text; with no argument, from standard input.
+#![tactic(auto)]
 
 use script::bad::Unread;
 use session::state::Session;

@@ -12,7 +12,7 @@ use lib.Seq.{take-append-add, take-append-le}
 use Rattle.std.proofs.lemmas.Bool.{both_ways, cases_lt, cases_eq}
 use Rattle.grammar.specs.declared.Field.{Field}
 use Rattle.grammar.specs.declared.Sign.{Sign}
-use Rattle.grammar.specs.Grammar.{digit, leading, Digits, letter, sign, digits, number, value, longest, largest, deepest, most_steps, count, step, IsRule, Begins, Fault, Faultless, Least}
+use Rattle.grammar.specs.Grammar.{leading, Digits, letter, sign, digits, number, value, longest, largest, deepest, most_steps, count, step, IsRule, Begins, Fault, Faultless, Least}
 use Rattle.grammar.specs.Grammar.Digits.{none, more}
 use Rattle.grammar.specs.Grammar.Number.{nought, figures}
 use Rattle.grammar.specs.Grammar.Fault.{long, unexpected, ended, over, deep, steps}

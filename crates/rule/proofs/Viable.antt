@@ -13,7 +13,7 @@ use Rattle.grammar.specs.Grammar.{digit, leading, Digits, Tree, letter, sign, di
 use Rattle.grammar.specs.Grammar.Digits.{none, more}
 use Rattle.grammar.specs.Grammar.Number.{nought, figures}
 use Rattle.grammar.specs.Grammar.Sort.{rule, factor}
-use Rattle.grammar.specs.Grammar.Tree.{one, or, sole, and, neg, group, test}
+use Rattle.grammar.specs.Grammar.Tree.{one, or, sole, neg, group, test}
 use Rattle.grammar.proofs.Joining.{either, either_spelled, both, both_spelled}
 use Rattle.rule.specs.declared.text.Mark.{Mark}
 use Rattle.rule.specs.declared.steps.Step.{Step}

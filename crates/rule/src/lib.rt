@@ -5,6 +5,7 @@
 // The lexer names each byte, the reader refuses the first mark that does not fit and writes the rule
 // down as at most 64 steps in postfix order, and a rule that is asked runs them. Reading takes time
 // in proportion to the text, asking in proportion to the steps; nothing is allocated.
+#![tactic(auto)]
 
 ghost use Rattle.rule.specs.Says.{Decided};
 

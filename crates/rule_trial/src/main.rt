@@ -1,6 +1,7 @@
 // Tries the reading and the asking of rules in two ways: on a table of texts whose outcomes were
 // worked out by hand from the rules of rule texts, and against a second method on many texts that
 // are made from a seed.
+#![tactic(auto)]
 
 mod descent;
 mod made;

@@ -1,11 +1,11 @@
 -- The words of a line, put together from the parts in which they were read.
 
-use Rattle.std.proofs.Common.{◌≡◌, ℕ, ◌+◌, ◌<◌, List, [], ◌∷◌, ◌++◌, length, sym, refl, ap, ◌∙◌, subst, append_assoc, append-nil, arith, length-append}
+use Rattle.std.proofs.Common.{ℕ, ◌<◌, List, [], ◌∷◌, ◌++◌, length, sym, ap, subst, append_assoc, append-nil, arith, length-append}
 use Rattle.curve.specs.declared.lot.Terms.{Terms}
 use Rattle.script.specs.Numerals.{HexByte}
 use Rattle.script.specs.Words.{Cut, Ended, Worded}
 use Rattle.script.specs.Words.Worded.{none, more}
-use Rattle.script.specs.Says.{Spelt, Fields, Field, Described}
+use Rattle.script.specs.Says.{Spelt, Fields, Described}
 use Rattle.script.specs.Says.Spelt.{none as no_bytes, more as more_bytes}
 use Rattle.script.specs.Says.Fields.{fields}
 

@@ -1,6 +1,6 @@
 -- To believe: which words say which line.
 
-use Rattle.std.specs.Prelude.{◌≡◌, ℕ, ◌<◌, List, [], ◌∷◌, vec_items, codes, Vec}
+use Rattle.std.specs.Prelude.{ℕ, ◌<◌, List, [], ◌∷◌, vec_items, codes, Vec}
 use Rattle.curve.specs.declared.lot.Terms.{Terms}
 use Rattle.std.specs.declared.alloc.Global.{Global}
 use Rattle.script.specs.Numerals.{Decimal, HexByte}

@@ -1,6 +1,6 @@
 -- To believe: what the words of a line are, and where the line ends.
 
-use Rattle.std.specs.Prelude.{◌≡◌, ℕ, ◌<◌, Bool, true, false, cond, List, [], ◌∷◌, ◌++◌, length, ◌==◌, ◌≢◌, slice_index}
+use Rattle.std.specs.Prelude.{◌≡◌, ℕ, ◌<◌, cond, List, [], ◌∷◌, ◌++◌, length, ◌==◌, ◌≢◌, slice_index}
 use Rattle.script.specs.declared.words.Kind.{Kind}
 use Rattle.script.specs.declared.words.Kind.TheVariants.{Blank, Mark, Plain}
 

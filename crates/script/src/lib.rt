@@ -1,4 +1,5 @@
 // The text format of the program: what a line says.
+#![tactic(auto)]
 
 pub mod bad;
 pub mod line;

@@ -1,4 +1,5 @@
 // Lines that are no lines of the format: what is said of each, and that nothing of it happens.
+#![tactic(auto)]
 
 use script::bad::Unread;
 use session::state::Session;

@@ -1,7 +1,6 @@
 -- To believe: what each line does to a session, and with which outcome.
 
-use Rattle.std.specs.Prelude.{◌≡◌, ℕ, ◌<◌, Bool, true, false, replicate, is_some, Some, None, vec_items, Option, Vec}
-use Rattle.cause.specs.declared.Cause.{Cause}
+use Rattle.std.specs.Prelude.{◌≡◌, ℕ, ◌<◌, true, false, replicate, is_some, Some, None, vec_items, Vec}
 use Rattle.curve.specs.Points.{Points}
 use Rattle.curve.specs.Card.{nth_points, Loaded, Unloaded, cause_of_load}
 use Rattle.curve.specs.declared.card.CardFault.{CardFault}
@@ -13,7 +12,6 @@ use Rattle.session.specs.Adding.{Added, Unadded}
 use Rattle.report.specs.Reasons.{cause_of}
 use Rattle.script.specs.declared.line.Line.{Line}
 use Rattle.script.specs.declared.line.Line.TheVariants.{Book, Page, Add}
-use Rattle.report.specs.declared.outcome.Answer.{Answer}
 use Rattle.report.specs.declared.outcome.Answer.TheVariants.{Opened, Points as Answered, Value, Refused}
 use Rattle.report.specs.declared.outcome.At.{At}
 use Rattle.report.specs.declared.outcome.At.TheVariants.{Nothing, Point}

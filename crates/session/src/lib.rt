@@ -1,3 +1,4 @@
 // A day of one book, played line by line.
+#![tactic(auto)]
 
 pub mod state;

@@ -1,14 +1,14 @@
 -- Situations that agree in all that counts draw one and the same network, send a table along its arcs in the same way, and read a
 -- record in the same way. So what holds of tables in one holds in the other.
 
-use Rattle.std.proofs.Common.{◌≡◌, ℕ, ◌+◌, ◌-◌, ◌<◌, ◌≤◌, Bool, true, false, cond, ◌&&◌, ◌||◌, eqb, ◌⊎◌, sym, refl, ap, ◌∙◌, inl, inr, arith}
+use Rattle.std.proofs.Common.{◌≡◌, ℕ, ◌-◌, ◌<◌, Bool, true, false, ◌&&◌, ◌||◌, eqb, sym, refl, ap, ◌∙◌, inl, inr, arith}
 use Rattle.std.proofs.lemmas.Bool.{cases_Bool, cond-true, cond-false, and_parts}
-use Rattle.network.specs.Sums.{sum_over, when, Agree}
+use Rattle.network.specs.Sums.{when, Agree}
 use Rattle.network.specs.Same.{Same}
 use Rattle.network.proofs.Sums.{sum_same}
 use Rattle.network.proofs.Same.{same_rounds}
-use Rattle.table.specs.Table.{Situation, Table, Lawful, Covers, allowed, of_issuer, owed, pledged, Shortage}
-use Rattle.table.specs.Drawn.{Node, Arc, arc, net_of, number, head_of, cap_of, drawn_arc, bears, slot, slot_of, leads, along, flow_of}
+use Rattle.table.specs.Table.{Situation, Table, Lawful, Covers, allowed, owed, pledged, Shortage}
+use Rattle.table.specs.Drawn.{arc, net_of, number, head_of, cap_of, slot, slot_of, leads, along, flow_of}
 use Rattle.table.specs.Drawn.Node.{cell}
 use Rattle.table.specs.Record.{Marks, Explains}
 use Rattle.table.specs.Outcome.{Chain, Granted, Short}

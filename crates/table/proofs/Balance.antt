@@ -1,14 +1,14 @@
 -- What leaves and enters each node, for any numbers F on the arcs: of all arcs, those alone count that have the node for an end.
 
-use Rattle.std.proofs.Common.{◌≡◌, ℕ, ◌+◌, ◌-◌, ◌*◌, ◌<◌, ◌≤◌, Bool, true, not, ◌&&◌, eqb, sym, refl, ap, ◌∙◌, arith}
+use Rattle.std.proofs.Common.{◌≡◌, ℕ, ◌<◌, ◌≤◌, Bool, not, ◌&&◌, eqb, sym, refl, ◌∙◌, arith}
 use Rattle.std.proofs.lemmas.Bool.{cases_eq}
 use Rattle.std.proofs.lemmas.Bool.Decides.{nat_tests}
 use Rattle.network.specs.Sums.{sum_over, when}
-use Rattle.network.specs.Flow.{Net, over, out_of, into, across, Flow, value}
+use Rattle.network.specs.Flow.{over, out_of, into, across, Flow, value}
 use Rattle.network.proofs.Sums.{sum_none, sum_same, sum_at, miss, hit}
 use Rattle.table.specs.Table.{Situation}
-use Rattle.table.specs.Drawn.{Node, Arc, place, arc, net_of, number, tail_of, head_of, cap_of, slot}
-use Rattle.table.specs.Drawn.Node.{source, lot, cell, exposure, sink}
+use Rattle.table.specs.Drawn.{Arc, place, arc, net_of, number, tail_of, head_of, cap_of, slot}
+use Rattle.table.specs.Drawn.Node.{lot, cell, exposure}
 use Rattle.table.specs.Drawn.Arc.{supply, offer, bound, demand}
 use Rattle.table.proofs.Sums.{grid_none}
 use Rattle.table.proofs.Arcs.{total, by_kind}

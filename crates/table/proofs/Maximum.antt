@@ -4,9 +4,9 @@
 -- maximum flow's own table, which leaves the least uncovered. A lawful table covers where it pledges all that is owed, and none
 -- pledges more than that; so if one covers, then the maximum flow's table does.
 
-use Rattle.std.proofs.Common.{◌≡◌, ℕ, ◌+◌, ◌-◌, ◌<◌, ◌≤◌, eqb, ◌↔◌, sym, ap, ◌∙◌, arith}
-use Rattle.network.specs.Flow.{out_of, into, Flow, value, Maximum}
-use Rattle.table.specs.Table.{Situation, Table, Lawful, Covers, pledged, owed, uncovered, Shortage}
+use Rattle.std.proofs.Common.{◌≡◌, ℕ, ◌-◌, ◌≤◌, ◌↔◌, ap, ◌∙◌, arith}
+use Rattle.network.specs.Flow.{value, Maximum}
+use Rattle.table.specs.Table.{Situation, Table, Lawful, Covers, pledged, owed, Shortage}
 use Rattle.table.specs.Drawn.{place, net_of, flow_of, table_of}
 use Rattle.table.proofs.Balance.{source_gets, by_numbers}
 use Rattle.table.proofs.Tables.{lawful_flow, pledged_value, flow_lawful, flow_value, value_owed, covers_all_lem}

@@ -1,19 +1,18 @@
 -- What the rounds come to, in the words of the tables. The rounds run from a flow f to a maximum flow g: g's table covers, or it
 -- leaves the least shortage, and what is reached explains it.
 
-use Rattle.std.proofs.Common.{◌≡◌, ℕ, ◌-◌, ◌<◌, ◌≤◌, Bool, true, false, ltb, sym, refl, ap, ◌∙◌, subst, arith}
+use Rattle.std.proofs.Common.{◌≡◌, ℕ, ◌-◌, Bool, true, false, ltb, sym, refl, ◌∙◌, arith}
 use Rattle.std.proofs.lemmas.Bool.{false≢true}
-use Rattle.network.specs.Sums.{sum_over, Agree}
 use Rattle.network.specs.Flow.{Flow, value, Maximum}
 use Rattle.network.specs.Residual.{Distances}
 use Rattle.network.specs.Round.{Rounds}
 use Rattle.network.proofs.Same.{same_refl, same_flow, same_rounds}
 use Rattle.network.proofs.Duality.{zero_flow}
-use Rattle.table.specs.Table.{Situation, Table, SameTable, zeros, Lawful, Covers, owed, Shortage}
-use Rattle.table.specs.Drawn.{place, net_of, flow_of, table_of}
+use Rattle.table.specs.Table.{Situation, Table, SameTable, owed}
+use Rattle.table.specs.Drawn.{net_of, flow_of, table_of}
 use Rattle.table.specs.Record.{marks_of}
 use Rattle.table.specs.Outcome.{Start, Begins, Granted, Short}
-use Rattle.table.proofs.Tables.{lawful_flow, lawful_same, covers_same, flow_same, flow_again, table_again, value_owed, value_supply}
+use Rattle.table.proofs.Tables.{lawful_flow, lawful_same, covers_same, flow_same, flow_again, table_again, value_owed}
 use Rattle.table.proofs.Maximum.{maximum_shortage, maximum_covers, covers_maximum}
 use Rattle.table.proofs.Record.{reached_explains_lem}
 

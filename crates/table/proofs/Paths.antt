@@ -1,12 +1,12 @@
 -- A table's flow is the sum of its pledges' paths: of all pledges, those alone go along an arc that have it on their path.
 
-use Rattle.std.proofs.Common.{◌≡◌, ℕ, ◌+◌, ◌-◌, ◌*◌, ◌/◌, ◌%◌, ◌<◌, ◌≤◌, eqb, ◌⊎◌, sym, refl, ap, ◌∙◌, inl, inr, arith}
+use Rattle.std.proofs.Common.{◌≡◌, ℕ, ◌+◌, ◌*◌, ◌/◌, ◌%◌, ◌<◌, eqb, ◌⊎◌, sym, refl, ap, ◌∙◌, inl, inr, arith}
 use Rattle.std.proofs.lemmas.Bool.{cases_eq}
 use Rattle.std.proofs.lemmas.Bool.Decides.{nat_tests}
 use Rattle.network.specs.Sums.{sum_over, when}
 use Rattle.network.proofs.Sums.{sum_none, sum_same, sum_at, sum_plus, miss, hit}
 use Rattle.table.specs.Table.{Situation, Table}
-use Rattle.table.specs.Drawn.{Arc, place, arc, slot, along, flow_of, cap_of}
+use Rattle.table.specs.Drawn.{place, slot, along, flow_of}
 use Rattle.table.specs.Drawn.Arc.{supply, offer, bound, demand}
 use Rattle.table.specs.Paths.{share}
 use Rattle.table.proofs.Sums.{sum_grid, grid_none, grid_same}

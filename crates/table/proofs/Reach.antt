@@ -1,14 +1,14 @@
 -- Only what is drawn has room, so only drawn nodes are reached, and there are fewer rounds than these.
 
-use Rattle.std.proofs.Common.{◌≡◌, ℕ, suc, ◌+◌, ◌-◌, ◌*◌, ◌/◌, ◌<◌, ◌≤◌, Bool, true, ◌&&◌, ◌⊎◌, sym, refl, ap, ◌∙◌, subst, inl, inr, arith}
+use Rattle.std.proofs.Common.{◌≡◌, ℕ, ◌*◌, ◌/◌, ◌<◌, true, sym, ap, ◌∙◌, subst, inl, inr, arith}
 use Rattle.std.proofs.lemmas.Bool.{and_parts, and_from}
 use Rattle.network.specs.Flow.{Flow}
 use Rattle.network.specs.Residual.{from, to, room, Walk}
 use Rattle.network.specs.Residual.Walk.{stay, step}
 use Rattle.network.proofs.Residual.{parity, from_even, from_odd, to_even, to_odd, room_even, room_odd}
 use Rattle.network.proofs.Rounds.{rounds_within}
-use Rattle.table.specs.Table.{Situation, Table, Lawful, allowed}
-use Rattle.table.specs.Drawn.{Arc, arc, net_of, number, node, tail_of, head_of, cap_of, drawn_node, drawn_arc, drawn_nodes, slot, leads, flow_of}
+use Rattle.table.specs.Table.{Situation, Table, Lawful}
+use Rattle.table.specs.Drawn.{arc, net_of, number, node, tail_of, head_of, cap_of, drawn_node, drawn_arc, drawn_nodes, slot, leads, flow_of}
 use Rattle.table.specs.Outcome.{Chain}
 use Rattle.table.proofs.Sums.{when_some}
 use Rattle.table.proofs.Slots.{slot_low, slot_leads}

@@ -13,20 +13,20 @@
 -- or marked issuers. Its capacity is what is owed less what the record explains. By weak duality no flow's value passes that, so no
 -- table pledges more; and where some table pledges as much, no cut has a smaller capacity.
 
-use Rattle.std.proofs.Common.{◌≡◌, ℕ, ◌+◌, ◌-◌, ◌*◌, ◌<◌, ◌≤◌, Bool, true, false, cond, not, ◌&&◌, ◌||◌, eqb, ltb, ◌⊎◌, sym, refl, ap, ◌∙◌, subst, inl, inr, arith}
+use Rattle.std.proofs.Common.{◌≡◌, ℕ, ◌+◌, ◌-◌, ◌<◌, ◌≤◌, Bool, true, false, not, ◌&&◌, ◌||◌, ltb, sym, refl, ap, ◌∙◌, inl, inr, arith}
 use Rattle.std.proofs.lemmas.Bool.{ltb-true, lt-ltb, cases_eq, cases_Bool, cond-true, false≢true, and_parts, and_from, or_left, or_right}
 use Rattle.network.specs.Sums.{sum_over, when}
-use Rattle.network.specs.Flow.{across, Flow, value, Cut, capacity, Minimum}
+use Rattle.network.specs.Flow.{Flow, value, Cut, capacity, Minimum}
 use Rattle.network.specs.Residual.{Distances}
 use Rattle.network.proofs.Sums.{sum_four, sum_zero, sum_same, sum_term}
 use Rattle.network.proofs.Duality.{weak_duality_lem}
-use Rattle.network.proofs.Layers.{enters, Entered}
+use Rattle.network.proofs.Layers.{enters}
 use Rattle.network.proofs.Layers.Entered.{along, against}
 use Rattle.network.proofs.Cut.{forward, reached_cut, value_is_capacity}
-use Rattle.table.specs.Table.{Situation, Table, Lawful, allowed, pledged, owed, uncovered, Shortage}
-use Rattle.table.specs.Drawn.{Arc, place, arc, node, net_of, number, tail_of, head_of, cap_of, slot, leads, drawn_node, flow_of}
-use Rattle.table.specs.Drawn.Node.{source, lot, cell, exposure, sink}
-use Rattle.table.specs.Drawn.Arc.{supply, offer, bound, demand}
+use Rattle.table.specs.Table.{Situation, Table, Lawful, allowed, owed, uncovered, Shortage}
+use Rattle.table.specs.Drawn.{place, arc, net_of, number, tail_of, head_of, cap_of, slot, leads, drawn_node, flow_of}
+use Rattle.table.specs.Drawn.Node.{lot, cell, exposure}
+use Rattle.table.specs.Drawn.Arc.{supply, offer}
 use Rattle.table.specs.Record.{Marks, Explains, SameMarks, near, cut_of, marks_of}
 use Rattle.table.proofs.Sums.{grid_none, grid_same, sum_two, when_low}
 use Rattle.table.proofs.Arcs.{every, arc_supply, arc_offer}

@@ -1,6 +1,6 @@
 -- Sums over places: over a row of places, over rows, and what follows for single terms.
 
-use Rattle.std.proofs.Common.{◌≡◌, ℕ, zero, suc, ◌+◌, ◌-◌, ◌*◌, ◌<◌, ◌≤◌, Bool, true, false, ◌⊎◌, sym, refl, ap, ◌∙◌, inl, inr, add-zero, add-suc, suc-mul, zero-mul, arith}
+use Rattle.std.proofs.Common.{◌≡◌, ℕ, zero, suc, ◌+◌, ◌-◌, ◌*◌, ◌<◌, ◌≤◌, Bool, true, false, sym, refl, ap, ◌∙◌, inl, inr, add-zero, add-suc, suc-mul, zero-mul, arith}
 use Rattle.std.proofs.lemmas.Bool.{cases_eq}
 use Rattle.network.specs.Sums.{sum_over, when}
 use Rattle.network.proofs.Sums.{sum_le, sum_zero, sum_none, sum_same, sum_plus, sum_term}

@@ -8,13 +8,13 @@
 -- So a table is lawful exactly if it is within the capacities, and then a flow. Back, conservation says what a flow sends along
 -- each arc once its pledges are known, so it is the flow of its table. The value is what the lots are given: all pledges.
 
-use Rattle.std.proofs.Common.{◌≡◌, ℕ, ◌+◌, ◌-◌, ◌*◌, ◌<◌, ◌≤◌, Bool, true, false, cond, ◌&&◌, eqb, ◌⊎◌, ◌↔◌, sym, refl, ap, ◌∙◌, subst, inl, inr, arith}
-use Rattle.std.proofs.lemmas.Bool.{eq-eqb, eqb-true, eqb-false, cases_lt, cases_Bool, cond-true, cond-false, both_ways, and_parts, and_from}
+use Rattle.std.proofs.Common.{◌≡◌, ℕ, ◌<◌, ◌≤◌, true, false, ◌&&◌, eqb, ◌⊎◌, ◌↔◌, sym, refl, ap, ◌∙◌, inl, inr, arith}
+use Rattle.std.proofs.lemmas.Bool.{eq-eqb, eqb-true, cases_lt, cases_Bool, cond-true, cond-false, both_ways, and_parts, and_from}
 use Rattle.network.specs.Sums.{sum_over, when, Agree}
-use Rattle.network.specs.Flow.{Net, Sound, out_of, into, Flow, value, Maximum}
+use Rattle.network.specs.Flow.{Sound, Flow, value}
 use Rattle.network.proofs.Sums.{sum_le, sum_none, sum_same, sum_at, sum_term, miss, hit}
-use Rattle.table.specs.Table.{Situation, Table, SameTable, Lawful, Covers, allowed, of_issuer, pledged, owed, uncovered, Shortage}
-use Rattle.table.specs.Drawn.{Arc, place, arc, net_of, number, tail_of, head_of, cap_of, slot, slot_of, leads, along, flow_of, table_of}
+use Rattle.table.specs.Table.{Situation, Table, SameTable, Lawful, Covers, allowed, of_issuer, pledged, owed}
+use Rattle.table.specs.Drawn.{place, arc, net_of, number, tail_of, head_of, cap_of, slot, slot_of, leads, along, flow_of, table_of}
 use Rattle.table.specs.Drawn.Arc.{supply, offer, bound, demand}
 use Rattle.table.proofs.Sums.{sum_swap, sum_tight, when_only, when_low}
 use Rattle.table.proofs.Arcs.{each, every, arc_supply, arc_offer, arc_bound, arc_demand}

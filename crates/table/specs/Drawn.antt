@@ -9,7 +9,7 @@
 -- not drawn has capacity 0: in no flow does it have room, and no walk comes to it. So it adds nothing to the network but unused
 -- numbers.
 
-use Rattle.std.specs.Prelude.{◌≡◌, ℕ, zero, suc, ◌+◌, ◌-◌, ◌*◌, ◌/◌, ◌%◌, Bool, true, cond, ◌&&◌, ◌==◌, nat_lt}
+use Rattle.std.specs.Prelude.{ℕ, zero, suc, ◌+◌, ◌-◌, ◌*◌, ◌/◌, ◌%◌, Bool, true, cond, ◌&&◌, ◌==◌, nat_lt}
 use Rattle.network.specs.Sums.{sum_over, when}
 use Rattle.network.specs.Flow.{Net}
 use Rattle.table.specs.Table.{Situation, Table, allowed, of_issuer}

@@ -4,7 +4,7 @@
 use Rattle.std.specs.Prelude.{◌≡◌, ℕ, ◌+◌, ◌-◌, ◌<◌, cond, ◌==◌, nat_lt}
 use Rattle.network.specs.Residual.{ahead, back}
 use Rattle.table.specs.Table.{Situation}
-use Rattle.table.specs.Drawn.{Node, Arc, place, node, slot}
+use Rattle.table.specs.Drawn.{Node, place, node, slot}
 use Rattle.table.specs.Drawn.Node.{source, lot, cell, exposure, sink}
 use Rattle.table.specs.Drawn.Arc.{supply, offer, bound, demand}
 

@@ -1,10 +1,10 @@
 -- The path of a pledge through the network: from the source to the lot, to the cell of its issuer at the exposure, to the exposure,
 -- to the sink.
 
-use Rattle.std.specs.Prelude.{◌≡◌, ℕ, ◌+◌, ◌==◌}
+use Rattle.std.specs.Prelude.{ℕ, ◌+◌, ◌==◌}
 use Rattle.network.specs.Sums.{when}
 use Rattle.table.specs.Table.{Situation}
-use Rattle.table.specs.Drawn.{Arc, place, slot}
+use Rattle.table.specs.Drawn.{place, slot}
 use Rattle.table.specs.Drawn.Arc.{supply, offer, bound, demand}
 
 -- what a pledge of x from the lot l to the exposure e sends along the arc of number k: x along each of the four arcs

@@ -1,5 +1,6 @@
 // Pledge tables as flows of a network: definitions in specs/, and the laws about them as contracts.
 // Nothing here runs; the functions are there so that the check asks for the proof of each law.
+#![tactic(auto)]
 
 ghost use Rattle.table.specs.Laws.{TablesAreFlows, FlowsAreTables, LawfulWithin, PathsAddUp, CoversAll, CoveredAtMaximum, LeastShortage, ReachedExplains, RecordBinds, RecordCuts, RoomIsDrawn, RoundsWithinDrawn, AgreementKeeps};
 

@@ -1,4 +1,5 @@
 // Sets of places as the bits of a word.
+#![tactic(auto)]
 
 ghost use Rattle.std.specs.Prelude.{◌≡◌, ℕ, ◌+◌, ◌*◌, ◌^◌, ◌<◌, Bool, false, length, if◌then◌else◌, slice_index_or};
 ghost use Rattle.words.specs.Word.{bit};

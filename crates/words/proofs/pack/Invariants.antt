@@ -1,4 +1,4 @@
-use Rattle.std.proofs.Common.{◌≡◌, ℕ, ◌-◌, ◌≤◌, min, length}
+use Rattle.std.proofs.Common.{◌≡◌, ◌-◌, ◌≤◌, min, length}
 use Rattle.words.proofs.Word.{word}
 use Rattle.words.proofs.pack.Given as goal
 

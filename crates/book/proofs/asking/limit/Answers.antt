@@ -1,4 +1,4 @@
-use Rattle.std.proofs.Common.{◌<◌, subst, arith}
+use Rattle.std.proofs.Common.{◌<◌, subst}
 use Rattle.calls.specs.Situation.{amount_of}
 use Rattle.book.proofs.asking.limit.Goals as goal
 

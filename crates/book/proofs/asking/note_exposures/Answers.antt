@@ -1,4 +1,4 @@
-use Rattle.std.proofs.Common.{◌≡◌, false, sym, ◌∙◌, arith}
+use Rattle.std.proofs.Common.{false, arith}
 use Rattle.calls.specs.State.{exposure_at, open_at}
 use Rattle.calls.specs.Situation.{amount_of}
 use Rattle.book.proofs.Noting.{noted_more, low_more}

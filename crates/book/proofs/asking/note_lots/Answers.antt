@@ -1,4 +1,4 @@
-use Rattle.std.proofs.Common.{◌≡◌, false, sym, ◌∙◌, arith}
+use Rattle.std.proofs.Common.{false, arith}
 use Rattle.calls.specs.State.{lot_at, held_at}
 use Rattle.calls.specs.Situation.{issuer_of, worth_of}
 use Rattle.book.proofs.Noting.{noted_more, low_more}

@@ -1,4 +1,3 @@
-use Rattle.std.proofs.Common.{◌≡◌, length}
 use Rattle.cover.specs.View.{Low}
 use Rattle.book.specs.Asked.{LotsNoted}
 use Rattle.book.proofs.asking.note_lots.Given as goal

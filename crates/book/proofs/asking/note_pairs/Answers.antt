@@ -1,4 +1,4 @@
-use Rattle.std.proofs.Common.{◌≡◌, ◌/◌, ◌%◌, false, sym, ◌∙◌, arith}
+use Rattle.std.proofs.Common.{◌/◌, ◌%◌, false, arith}
 use Rattle.calls.specs.State.{lot_at, exposure_at}
 use Rattle.calls.specs.Situation.{admits_of}
 use Rattle.book.specs.Asked.{limit_for}

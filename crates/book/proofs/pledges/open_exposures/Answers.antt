@@ -1,4 +1,4 @@
-use Rattle.std.proofs.Common.{◌≡◌, sym, ◌∙◌, arith}
+use Rattle.std.proofs.Common.{sym, ◌∙◌, arith}
 use Rattle.calls.specs.State.{open_at}
 use Rattle.book.proofs.Walks.{count_start, count_hit, count_miss}
 use Rattle.book.proofs.pledges.open_exposures.Goals as goal

@@ -1,4 +1,4 @@
-use Rattle.std.proofs.Common.{◌≡◌, ◌+◌, ◌/◌, ◌%◌, ◌<◌, ◌≤◌, cond, length, get_or, sym, refl, ap, ◌∙◌, arith}
+use Rattle.std.proofs.Common.{◌+◌, ◌/◌, ◌%◌, ◌≤◌, length, get_or, refl, ap, ◌∙◌, arith}
 use Rattle.calls.specs.Instructions.{changes, written}
 use Rattle.book.proofs.Collected.{collected, change_at, changes_is, has_room, turn}
 use Rattle.book.proofs.pledges.write_changes.Goals as goal

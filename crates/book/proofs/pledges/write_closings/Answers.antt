@@ -1,4 +1,4 @@
-use Rattle.std.proofs.Common.{◌≡◌, ◌+◌, ◌*◌, ◌<◌, ◌≤◌, cond, length, get_or, sym, refl, ap, ◌∙◌, arith}
+use Rattle.std.proofs.Common.{◌+◌, ◌*◌, ◌≤◌, length, refl, ap, ◌∙◌, arith}
 use Rattle.calls.specs.State.{table}
 use Rattle.calls.specs.Instructions.{closings, written}
 use Rattle.book.proofs.Collected.{collected, closing_at, closings_is, has_room, turn}

@@ -1,4 +1,4 @@
-use Rattle.std.proofs.Common.{◌≡◌, length}
+use Rattle.std.proofs.Common.{◌≡◌}
 use Rattle.calls.specs.Step.{zeroed}
 use Rattle.book.proofs.pledges.zero_column.Given as goal
 

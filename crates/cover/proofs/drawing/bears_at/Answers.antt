@@ -1,4 +1,4 @@
-use Rattle.std.proofs.Common.{◌≡◌, sym, ap, ◌∙◌, arith}
+use Rattle.std.proofs.Common.{sym, ap, ◌∙◌, arith}
 use Rattle.table.specs.Drawn.{cap_of}
 use Rattle.table.proofs.Arcs.{arc_supply, arc_offers, arc_bounds, arc_demands}
 use Rattle.cover.specs.Seen.{seen}

@@ -1,4 +1,4 @@
-use Rattle.std.proofs.Common.{sym, arith}
+use Rattle.std.proofs.Common.{arith}
 use Rattle.table.proofs.Slots.{slot_low}
 use Rattle.cover.specs.Seen.{seen}
 use Rattle.cover.specs.Lists.{zeros_at}

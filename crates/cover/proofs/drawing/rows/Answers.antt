@@ -1,5 +1,4 @@
-use Rattle.std.proofs.Common.{◌<◌, arith}
-use Rattle.cover.specs.View.{at}
+use Rattle.std.proofs.Common.{arith}
 use Rattle.cover.specs.Rows.{count_low, rows_more, rows_start}
 use Rattle.cover.proofs.drawing.rows.Goals as goal
 

@@ -1,4 +1,4 @@
-use Rattle.std.proofs.Common.{◌≡◌, ℕ, refl, ◌∙◌, arith, length-set}
+use Rattle.std.proofs.Common.{◌≡◌, refl, ◌∙◌, arith, length-set}
 use Rattle.table.specs.Drawn.{slot}
 use Rattle.cover.specs.Seen.{seen}
 use Rattle.cover.proofs.First.{first_start}

@@ -1,4 +1,4 @@
-use Rattle.std.proofs.Common.{◌≡◌, ◌+◌, ◌*◌, ◌^◌, ◌<◌, ap, arith}
+use Rattle.std.proofs.Common.{◌+◌, ◌*◌, ap, arith}
 use Rattle.network.proofs.Sums.{miss}
 use Rattle.table.specs.Drawn.{arc, cap_of}
 use Rattle.cover.specs.View.{at}

@@ -1,4 +1,4 @@
-use Rattle.std.proofs.Common.{◌≡◌, ℕ, ◌+◌, sym, arith}
+use Rattle.std.proofs.Common.{◌≡◌, ◌+◌, sym, arith}
 use Rattle.cover.specs.View.{at}
 use Rattle.cover.specs.Lists.{fill_more}
 use Rattle.cover.proofs.load.store.Goals as goal

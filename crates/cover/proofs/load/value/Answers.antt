@@ -1,5 +1,4 @@
-use Rattle.std.proofs.Common.{◌≡◌, ℕ, ◌+◌, ◌^◌, ◌<◌, sym, ap, ◌∙◌, arith}
-use Rattle.network.specs.Sums.{sum_over}
+use Rattle.std.proofs.Common.{ℕ, ◌^◌, ◌<◌, sym, arith}
 use Rattle.network.proofs.Sums.{sum_start, sum_more}
 use Rattle.table.proofs.Sums.{sum_below}
 use Rattle.cover.specs.View.{at}

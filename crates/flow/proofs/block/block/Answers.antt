@@ -1,8 +1,8 @@
-use Rattle.std.proofs.Common.{◌≡◌, ℕ, ◌+◌, ◌-◌, ◌<◌, ◌≤◌, length, sym, refl, ap, ◌∙◌, subst, arith, length-set}
+use Rattle.std.proofs.Common.{◌∙◌, arith, length-set}
 use Rattle.flow.specs.Lists.{at}
 use Rattle.flow.specs.ListsLemmas.{put, zeros}
 use Rattle.flow.proofs.Blocking.{cursors_none, walk_start}
-use Rattle.flow.proofs.Sending.{Filling, found_trail, found_deep, sent_flows, sent_slack, sent_only, sent_walk, filled}
+use Rattle.flow.proofs.Sending.{sent_flows, sent_slack, sent_only, sent_walk, filled}
 use Rattle.flow.proofs.block.block.Goals as goal
 
 pub overflow_cast-stack : goal.overflow_cast-stack

@@ -1,4 +1,3 @@
-use Rattle.std.proofs.Common.{◌≡◌, ℕ, ◌<◌, ◌≤◌}
 use Rattle.flow.specs.Lists.{at}
 use Rattle.flow.specs.Blocking.{Least}
 use Rattle.flow.proofs.block.bottleneck.Given as goal

@@ -1,7 +1,7 @@
-use Rattle.std.proofs.Common.{◌≡◌, ℕ, ◌+◌, ◌-◌, ◌*◌, ◌<◌, ◌≤◌, length, set, sym, refl, ap, ◌∙◌, subst, arith}
+use Rattle.std.proofs.Common.{◌+◌, sym, refl, ap, ◌∙◌, arith}
 use Rattle.flow.specs.Lists.{at}
 use Rattle.flow.specs.ListsLemmas.{put}
-use Rattle.flow.proofs.Blocking.{listed_target, end_in, walk_on, walk_back, walk_none, scan, scan_at, scan_left, scan_deep, scan_on, back_in, back_walk, back_left}
+use Rattle.flow.proofs.Blocking.{listed_target, end_in, walk_none, scan, scan_at, scan_left, scan_deep, scan_on, back_in, back_walk, back_left}
 use Rattle.flow.proofs.block.descend.Goals as goal
 
 pub offset_bounds-cursor-v : goal.offset_bounds-cursor-v

@@ -1,4 +1,4 @@
-use Rattle.std.proofs.Common.{◌≡◌, ℕ, ◌+◌, ◌-◌, ◌*◌, ◌<◌}
+use Rattle.std.proofs.Common.{◌≡◌, ◌+◌, ◌-◌, ◌*◌}
 use Rattle.network.specs.Sums.{sum_over}
 use Rattle.flow.specs.Lists.{at}
 use Rattle.flow.specs.Blocking.{Walking}

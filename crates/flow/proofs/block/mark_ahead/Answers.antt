@@ -1,4 +1,4 @@
-use Rattle.std.proofs.Common.{◌≡◌, refl, arith}
+use Rattle.std.proofs.Common.{refl, arith}
 use Rattle.flow.proofs.Blocking.{listed_target}
 use Rattle.flow.proofs.block.mark_ahead.Goals as goal
 

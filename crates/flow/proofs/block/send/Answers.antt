@@ -1,6 +1,6 @@
-use Rattle.std.proofs.Common.{◌≡◌, ◌<◌, ◌≤◌, subst, arith}
+use Rattle.std.proofs.Common.{◌≡◌, subst, arith}
 use Rattle.network.specs.Augment.{Sent, stop}
-use Rattle.network.proofs.Augment.{Sending, send_start, send_more}
+use Rattle.network.proofs.Augment.{send_start, send_more}
 use Rattle.flow.specs.Lists.{at}
 use Rattle.flow.proofs.block.send.Goals as goal
 

@@ -1,4 +1,4 @@
-use Rattle.std.proofs.Common.{◌/◌, ◌<◌, arith}
+use Rattle.std.proofs.Common.{◌/◌, arith}
 use Rattle.flow.proofs.Sending.{then_fits, else_fits, then_pushed, else_pushed}
 use Rattle.flow.proofs.block.send_one.Goals as goal
 

@@ -1,7 +1,7 @@
-use Rattle.std.proofs.Common.{◌≡◌, ℕ, ◌+◌, ◌-◌, ◌<◌, ◌≤◌, length, set, sym, refl, ap, ◌∙◌, subst, arith}
+use Rattle.std.proofs.Common.{ap, ◌∙◌, arith}
 use Rattle.flow.specs.Lists.{at}
 use Rattle.flow.specs.ListsLemmas.{put, put_at, zeros}
-use Rattle.flow.proofs.Bfs.{bfs_start, bfs_fits, bfs_hand}
+use Rattle.flow.proofs.Bfs.{bfs_start, bfs_hand}
 use Rattle.flow.proofs.Nearer.{bfs_searched}
 use Rattle.flow.proofs.layers.layers.Goals as goal
 

@@ -1,9 +1,9 @@
-use Rattle.std.proofs.Common.{◌≡◌, ℕ, ◌+◌, ◌^◌, ◌<◌, ◌≤◌, ltb, get_or, set, sym, refl, ap, ◌∙◌, subst, arith}
+use Rattle.std.proofs.Common.{◌^◌, ◌<◌, ltb, sym, ap, ◌∙◌, arith}
 use Rattle.std.proofs.lemmas.Bool.{ltb-true, ltb-false}
-use Rattle.network.specs.Residual.{to, room}
+use Rattle.network.specs.Residual.{room}
 use Rattle.flow.specs.Lists.{at}
 use Rattle.flow.specs.ListsLemmas.{put, put_at}
-use Rattle.flow.proofs.Bfs.{Spreading, bfs_hand, bfs_space, bfs_fits, node_in, arc_in, target_in, spread_as, spread_skip, spread_old, spread_push, spread_end, hand_target, hand_open}
+use Rattle.flow.proofs.Bfs.{bfs_hand, bfs_space, spread_as, spread_skip, spread_old, spread_push, spread_end, hand_target, hand_open}
 use Rattle.flow.proofs.layers.spread.Given.{Over}
 use Rattle.flow.proofs.layers.spread.Goals as goal
 use Rattle.flow.proofs.layers.spread.Goals.{then-mark-w-eq0+then-has_room, else-mark-w-eq0, else-mark-w-eq0-via-then-mark-w-eq0+else-has_room, else-mark-w-eq0-via-else-mark-w-eq0}

@@ -1,7 +1,7 @@
-use Rattle.std.proofs.Common.{◌≡◌, ℕ, ◌<◌, sym, ap, ◌∙◌, arith}
+use Rattle.std.proofs.Common.{sym, ap, ◌∙◌, arith}
 use Rattle.std.proofs.lemmas.Bool.{ltb-true, ltb-false}
 use Rattle.flow.specs.Lists.{at}
-use Rattle.flow.proofs.Running.{Running, running_none, running_marks, running_few, running_more, running_end}
+use Rattle.flow.proofs.Running.{running_none, running_few, running_more, running_end}
 use Rattle.flow.proofs.rounds.run.Goals as goal
 
 pub loop-flow-init : goal.loop-flow-init

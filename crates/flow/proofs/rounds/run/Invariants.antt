@@ -1,4 +1,4 @@
-use Rattle.std.proofs.Common.{ℕ, ◌-◌}
+use Rattle.std.proofs.Common.{◌-◌}
 use Rattle.flow.specs.Lists.{at}
 use Rattle.flow.proofs.Running.{Running}
 use Rattle.flow.proofs.rounds.run.Given as goal

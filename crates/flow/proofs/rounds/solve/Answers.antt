@@ -1,4 +1,4 @@
-use Rattle.std.proofs.Common.{◌≡◌, sym, arith}
+use Rattle.std.proofs.Common.{sym, arith}
 use Rattle.network.proofs.Same.{same_refl, same_flow}
 use Rattle.flow.proofs.Running.{solved_from}
 use Rattle.flow.proofs.rounds.solve.Goals as goal

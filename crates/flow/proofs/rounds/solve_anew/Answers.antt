@@ -1,4 +1,4 @@
-use Rattle.std.proofs.Common.{◌≡◌, arith}
+use Rattle.std.proofs.Common.{arith}
 use Rattle.network.proofs.Duality.{zero_flow}
 use Rattle.flow.specs.ListsLemmas.{zeros}
 use Rattle.flow.proofs.Running.{solved_from}

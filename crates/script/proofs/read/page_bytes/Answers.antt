@@ -1,4 +1,4 @@
-use Rattle.std.proofs.Common.{is_ok, sym, ap, subst, arith}
+use Rattle.std.proofs.Common.{is_ok, sym, ap, subst}
 use Rattle.std.proofs.ResultArms.{chosen}
 use Rattle.script.proofs.Lines.{Sofar, shorter, started, one_more, done}
 use Rattle.script.proofs.read.page_bytes.Goals as goal

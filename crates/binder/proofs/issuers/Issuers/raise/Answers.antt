@@ -1,4 +1,4 @@
-use Rattle.std.proofs.Common.{◌≡◌, ℕ, ◌+◌, ◌<◌, true, length, ap, ◌∙◌, arith, length-set}
+use Rattle.std.proofs.Common.{◌+◌, ◌<◌, true, length, ap, ◌∙◌, arith, length-set}
 use Rattle.binder.proofs.Flags.{one_more, raised}
 use Rattle.binder.proofs.issuers.Issuers.raise.Goals as goal
 

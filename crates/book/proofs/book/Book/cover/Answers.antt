@@ -1,4 +1,4 @@
-use Rattle.std.proofs.Common.{◌≡◌, ℕ, true, false, length, sym, ap, ◌∙◌, arith}
+use Rattle.std.proofs.Common.{◌≡◌, ℕ, length, sym, ◌∙◌, arith}
 use Rattle.cover.specs.Seen.{seen}
 use Rattle.book.specs.View.{view}
 use Rattle.book.proofs.Lawfuls.{grounded, low}

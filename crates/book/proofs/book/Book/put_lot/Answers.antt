@@ -1,9 +1,8 @@
-use Rattle.std.proofs.Common.{◌≡◌, false, ltb, Some, sym, ap, ◌∙◌, arith, length-set}
+use Rattle.std.proofs.Common.{◌≡◌, false, ltb, Some, ◌∙◌, arith, length-set}
 use Rattle.std.proofs.lemmas.Bool.Decides.{nat_tests}
 use Rattle.std.proofs.lemmas.Result.{err_from_is_err_and}
 use Rattle.curve.specs.Card.{nth_points}
 use Rattle.calls.specs.Situation.{worth_of}
-use Rattle.calls.specs.State.{held_at}
 use Rattle.book.specs.View.{view}
 use Rattle.book.proofs.Places.{low_set, lot_filled}
 use Rattle.book.proofs.Pricing.{worth_low, priced_step, unpriced_step}

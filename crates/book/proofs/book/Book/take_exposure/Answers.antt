@@ -1,4 +1,4 @@
-use Rattle.std.proofs.Common.{◌≡◌, ◌<◌, length, None, sym, ap, ◌∙◌, arith, length-set}
+use Rattle.std.proofs.Common.{◌<◌, length, None, sym, ap, ◌∙◌, arith, length-set}
 use Rattle.calls.specs.Situation.{amount_of}
 use Rattle.calls.specs.Step.{zeroed}
 use Rattle.book.proofs.Places.{low_set, zeroed_length, zeroed_low, exposure_emptied}

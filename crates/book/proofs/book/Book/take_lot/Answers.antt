@@ -1,4 +1,4 @@
-use Rattle.std.proofs.Common.{◌≡◌, false, ltb, None, sym, ap, ◌∙◌, arith, length-set}
+use Rattle.std.proofs.Common.{◌≡◌, false, ltb, None, ap, ◌∙◌, arith, length-set}
 use Rattle.network.specs.Sums.{sum_over}
 use Rattle.calls.specs.State.{table}
 use Rattle.calls.specs.Situation.{worth_of}

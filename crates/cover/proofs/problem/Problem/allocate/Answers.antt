@@ -1,4 +1,4 @@
-use Rattle.std.proofs.Common.{◌≡◌, ◌-◌, cond, eqb, ltb, Ok, Err, sym, refl, ap, ◌∙◌, subst}
+use Rattle.std.proofs.Common.{◌≡◌, ◌-◌, cond, eqb, ltb, Ok, Err, sym, ap, ◌∙◌, subst}
 use Rattle.flow.specs.Solved.{Solved}
 use Rattle.table.specs.Table.{SameTable}
 use Rattle.table.specs.Drawn.{net_of, table_of}

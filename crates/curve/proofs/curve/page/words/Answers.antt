@@ -1,5 +1,4 @@
-use Rattle.std.proofs.Common.{◌≡◌, ◌+◌, ◌*◌, ◌<◌, length, ◌∙◌, arith, length-set, rules}
-use Rattle.curve.specs.Page.{Spelt}
+use Rattle.std.proofs.Common.{◌∙◌, arith, length-set}
 use Rattle.curve.proofs.Spelling.{spelt_more, spelt_there}
 use Rattle.curve.proofs.curve.page.words.Goals as goal
 

@@ -1,8 +1,6 @@
-use Rattle.std.proofs.Common.{◌≡◌, ℕ, sym, subst, arith}
+use Rattle.std.proofs.Common.{◌≡◌, ℕ, arith}
 use Rattle.std.proofs.lemmas.Result.{MatchResult-weaker}
-use Rattle.curve.specs.Lot.{Unpriced}
 use Rattle.curve.specs.Lot.Unpriced.{outside, past}
-use Rattle.curve.specs.Card.{nth_points}
 use Rattle.curve.proofs.lot.Terms.haircut.Goals as goal
 
 pub returns-then-not-lawful : goal.returns-then-not-lawful

@@ -1,4 +1,4 @@
-use Rattle.std.proofs.Common.{◌≡◌, ◌+◌, length, set, sym, refl, ap, ◌∙◌, subst, arith, length-set}
+use Rattle.std.proofs.Common.{◌+◌, length, set, sym, refl, ap, ◌∙◌, subst, arith, length-set}
 use Rattle.network.specs.Same.{Same}
 use Rattle.flow.specs.Stored.{Joins, with_arc, listed_net}
 use Rattle.flow.specs.StoredLaws.{joins_more, sums_more, same_more}

@@ -1,5 +1,4 @@
-use Rattle.std.proofs.Common.{◌++◌, take, refl}
-use Rattle.book.specs.View.{view}
+use Rattle.std.proofs.Common.{refl}
 use Rattle.life.proofs.Plays.{lived, sound}
 use Rattle.life.proofs.session.Session.run.Goals as goal
 

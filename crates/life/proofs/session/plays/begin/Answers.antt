@@ -1,6 +1,6 @@
 use Rattle.std.proofs.Common.{◌≡◌, true, [], sym, refl, subst}
 use Rattle.calls.specs.Call.Call.{begin}
-use Rattle.book.specs.View.{view, numbers}
+use Rattle.book.specs.View.{view}
 use Rattle.life.specs.Turn.{made}
 use Rattle.life.specs.Matched.{has_slip}
 use Rattle.life.proofs.Slips.{blank_note, no_meaning, not_begun, begun_held, refused_keeps}

@@ -1,4 +1,4 @@
-use Rattle.std.proofs.Common.{◌≡◌, ◌+◌, ◌-◌, ◌<◌, ◌≤◌, min, length, take, drop, sym, refl, ap, ◌∙◌, subst, arith}
+use Rattle.std.proofs.Common.{◌≡◌, ◌-◌, ◌≤◌, min, length, take, refl, ap, ◌∙◌, subst, arith}
 use native.Mathlib.Nat.{min_comm}
 use Rattle.book.specs.View.{view}
 use Rattle.life.specs.Turn.{Played, none, count_of}

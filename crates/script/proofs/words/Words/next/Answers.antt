@@ -1,4 +1,4 @@
-use Rattle.std.proofs.Common.{refl, arith, rules, true-eqb, false-eqb}
+use Rattle.std.proofs.Common.{refl, arith, true-eqb, false-eqb}
 use Rattle.script.proofs.Cutting.{cut, ended}
 use Rattle.script.proofs.words.Words.next.Goals as goal
 

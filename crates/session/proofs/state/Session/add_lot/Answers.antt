@@ -1,4 +1,4 @@
-use Rattle.std.proofs.Common.{refl, ◌∙◌, rules}
+use Rattle.std.proofs.Common.{refl, rules}
 use Rattle.session.specs.Playing.{Calls}
 use Rattle.session.proofs.Played.{added, unadded}
 use Rattle.session.proofs.state.Session.add_lot.Goals as goal

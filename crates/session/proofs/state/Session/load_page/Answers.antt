@@ -1,4 +1,4 @@
-use Rattle.std.proofs.Common.{refl, ap, rules}
+use Rattle.std.proofs.Common.{rules}
 use Rattle.session.specs.Playing.{Loads}
 use Rattle.session.proofs.Played.{loaded, unloaded}
 use Rattle.session.proofs.state.Session.load_page.Goals as goal

@@ -1,7 +1,4 @@
-use Rattle.std.proofs.Common.{◌≡◌, sym, ap, ◌∙◌, arith}
-use Rattle.table.specs.Drawn.{Node, number}
-use Rattle.table.specs.Listing.{target_of}
-use Rattle.cover.specs.Picture.{pictured, member_of}
+use Rattle.std.proofs.Common.{sym, ◌∙◌}
 use Rattle.cover.specs.PictureLemmas.{drawn_target}
 use Rattle.cover.proofs.position.net.PositionNetwork.target.Goals as goal
 
