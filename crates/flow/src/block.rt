@@ -7,8 +7,8 @@ ghost use Rattle.network.specs.Augment.{Trail, Pushed, Sent, stop};
 ghost use Rattle.flow.specs.Lists.{at};
 ghost use Rattle.flow.specs.Blocking.{Marks, First, Walking, Descended, Least, Filled};
 
+use crate::interface::Network;
 use crate::layers::has_room;
-use crate::network::Network;
 
 // The mark of the node that the `j`-th arc of `v` enters.
 fn mark_ahead<G: Network>(network: &G, mark: &[u32], v: usize, j: usize) -> u32

@@ -5,7 +5,7 @@ ghost use Rattle.network.specs.Residual.{room};
 ghost use Rattle.flow.specs.Lists.{at};
 ghost use Rattle.flow.specs.Search.{Bfs, Searched};
 
-use crate::network::Network;
+use crate::interface::Network;
 
 // Whether an arc that carries `x` can carry more, and whether it can carry less.
 fn unfilled(x: u64, capacity: u64) -> bool

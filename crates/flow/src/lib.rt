@@ -11,11 +11,11 @@
 #![tactic(auto)]
 
 mod block;
+mod interface;
 mod layers;
-mod network;
 mod rounds;
 mod stored;
 
-pub use network::Network;
+pub use interface::Network;
 pub use rounds::{Refusal, maximize, maximize_from_zero, reached};
 pub use stored::{ArcList, MAX_ARCS, MAX_ENDS, MAX_NODES, StoredNetwork, Unfit};

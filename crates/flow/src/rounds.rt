@@ -6,8 +6,8 @@ ghost use Rattle.flow.specs.Lists.{at};
 ghost use Rattle.flow.specs.Solved.{Sizes, Solved, Checked, Outcome, marked};
 
 use crate::block::block;
+use crate::interface::Network;
 use crate::layers::layers;
-use crate::network::Network;
 
 /// Whether the node `v` has a mark.
 pub fn reached(mark: &[u32], v: usize) -> bool

@@ -8,7 +8,7 @@ ghost use Rattle.flow.specs.Stored.{Joins, Degrees, Starts, Rows};
 mod arcs;
 mod rows;
 
-use crate::network::Network;
+use crate::interface::Network;
 pub use arcs::Unfit;
 
 /// The most nodes and arcs that are stored. Each arc has two ends.
