@@ -1,4 +1,4 @@
--- Every binder keeps the four laws. A single schedule holds number 0 alone, tests the ranges itself and has a share
+-- To believe: nothing; lemmas that the binders give for their law. Every binder keeps the four laws. A single schedule holds number 0 alone, tests the ranges itself and has a share
 -- in range. An exclusion has the numbers and shares that are below it and admits less. A pair answers with what one of
 -- its binders says of a number below 16, whose laws serve, or has nothing there.
 

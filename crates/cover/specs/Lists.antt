@@ -1,4 +1,4 @@
--- Arrays read as functions.
+-- To believe: nothing; lemmas. Arrays read as functions.
 
 use Rattle.std.specs.Prelude.{◌≡◌, ℕ, ◌+◌, ◌<◌, ◌≢◌, List, length, replicate, ◌==◌, slice_index_or, slice_set}
 use Rattle.std.proofs.Common.{sym, ap, subst, ◌∙◌, inl, inr, arith, get_or-set_same, get_or-set_other}

@@ -1,4 +1,4 @@
--- A drawn network keeps the laws of networks.
+-- To believe: nothing; lemmas that a drawn network gives for its laws. It keeps the laws of networks.
 
 use Rattle.std.specs.Prelude.{◌≡◌, ℕ, ◌^◌, ◌<◌}
 use Rattle.std.proofs.Common.{sym, ap, subst, ◌∙◌, arith}

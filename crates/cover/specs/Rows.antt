@@ -1,4 +1,4 @@
--- The lots of each slot, row by row, while the lots are gone through: lot l is put behind those of its slot before it.
+-- To believe: nothing; lemmas. The lots of each slot, row by row, while the lots are gone through: lot l is put behind those of its slot before it.
 
 use Rattle.std.specs.Prelude.{◌≡◌, ℕ, ◌+◌, ◌*◌, ◌<◌, ◌≤◌, List, length, ◌==◌, slice_set, refl}
 use Rattle.std.proofs.Common.{sym, ap, ◌∙◌, inl, inr, arith}

@@ -2,23 +2,23 @@
 
 use Rattle.std.proofs.Common.{ℕ, ◌+◌, ◌-◌, ◌*◌, ◌<◌, ◌≤◌, div-lt_iff_lt-mul, add-mul, mul-le-mul_left, arith}
 use native.Mathlib.Nat.{lt-div-mul-add}
-use Rattle.curve.specs.Points.{rounded_up_lem, between}
+use Rattle.curve.specs.Points.{quotient_up, between}
 
 -- at most e where e times the divisor is enough
-pub up_le : (x d e : ℕ) → 0 < d → x ≤ e * d → rounded_up_lem x d ≤ e
+pub up_le : (x d e : ℕ) → 0 < d → x ≤ e * d → quotient_up x d ≤ e
 up_le x d e p h =
     let less : x + (d - 1) < (e + 1) * d = omega (arith, add-mul e 1 d) in
     omega (arith, (div-lt_iff_lt-mul {x = x + (d - 1)} {y = e + 1} p).1 less)
 
 -- and as often as it says, the divisor is enough
-pub le_up : (x d : ℕ) → 0 < d → x ≤ rounded_up_lem x d * d
+pub le_up : (x d : ℕ) → 0 < d → x ≤ quotient_up x d * d
 le_up x d p = omega (arith, lt-div-mul-add {a = x + (d - 1)} p)
 
-pub up_mono : (x y d : ℕ) → 0 < d → x ≤ y → rounded_up_lem x d ≤ rounded_up_lem y d
-up_mono x y d p h = up_le x d (rounded_up_lem y d) p (omega (arith, le_up y d p))
+pub up_mono : (x y d : ℕ) → 0 < d → x ≤ y → quotient_up x d ≤ quotient_up y d
+up_mono x y d p h = up_le x d (quotient_up y d) p (omega (arith, le_up y d p))
 
 -- between two points a haircut rises by no more than their difference
-pub rise_le : (a b d m : ℕ) → a < b → m ≤ b → rounded_up_lem (d * (m - a)) (b - a) ≤ d
+pub rise_le : (a b d m : ℕ) → a < b → m ≤ b → quotient_up (d * (m - a)) (b - a) ≤ d
 rise_le a b d m h l = up_le (d * (m - a)) (b - a) d (omega arith) (mul-le-mul_left d (omega arith))
 
 pub between_le : (a p b q m : ℕ) → a < b → m ≤ b → p ≤ q → between a p b q m ≤ q

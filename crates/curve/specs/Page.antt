@@ -14,7 +14,7 @@ pub record Page (bs : List ℕ) (c : Points) : Type 0 where
   pub some : 1 ≤ c.count
   pub few : c.count ≤ 16
   pub size : length bs ≡ 1 + 4 * c.count
-  pub number : slice_index_or bs 0 0 ≡ c.count
+  pub number : slice_index bs 0 ≡ c.count
   pub months : (j : ℕ) → j < c.count → Spelt bs (1 + 2 * j) (c.month j)
   pub haircuts : (j : ℕ) → j < c.count → Spelt bs (1 + 2 * c.count + 2 * j) (c.haircut j)
 

@@ -35,12 +35,12 @@ pub record Lawful (c : Points) : Type 0 where
   pub haircuts : NoneBelow c.count (haircut_breaks c.haircut)
 
 -- a quotient rounded up
-abbrev pub rounded_up_lem : ℕ → ℕ → ℕ
-rounded_up_lem x d = (x + (d - 1)) / d
+abbrev pub quotient_up : ℕ → ℕ → ℕ
+quotient_up x d = (x + (d - 1)) / d
 
 -- the haircut between two points: month a with haircut p, and month b with haircut q
 abbrev pub between : ℕ → ℕ → ℕ → ℕ → ℕ → ℕ
-between a p b q m = p + rounded_up_lem ((q - p) * (m - a)) (b - a)
+between a p b q m = p + quotient_up ((q - p) * (m - a)) (b - a)
 
 -- the curve has the haircut h at month m
 pub data Haircut (c : Points) (m : ℕ) : ℕ → Type 0 where

@@ -1,4 +1,4 @@
--- Lists as functions: one with a place written, and one of zeros.
+-- To believe: nothing; lemmas. Lists as functions: one with a place written, and one of zeros.
 
 use Rattle.std.specs.Prelude.{◌≡◌, ℕ, zero, suc, ◌<◌, List, length, replicate, ◌≢◌, slice_set, refl}
 use Rattle.std.proofs.Common.{ap, subst, ◌∙◌}

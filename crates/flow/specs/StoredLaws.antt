@@ -1,4 +1,4 @@
--- A stored network is lawful; and what an arc more makes of a list.
+-- To believe: nothing; lemmas that a stored network gives for its laws. It is lawful; and what an arc more makes of a list.
 
 use Rattle.std.specs.Prelude.{◌≡◌, ℕ, ◌+◌, ◌*◌, ◌<◌, List, length, ◌==◌, ◌≢◌, slice_set, refl}
 use Rattle.std.proofs.Common.{sym, ap, ◌∙◌, inl, inr, arith, length-set}

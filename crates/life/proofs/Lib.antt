@@ -1,2 +1,3 @@
 pub mod Slips
 pub mod Plays
+pub mod Rests

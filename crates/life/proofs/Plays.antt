@@ -3,18 +3,22 @@
 -- The instructions of each order stand behind those of the orders before it, so what the journal holds so far is what was given
 -- out so far; and each order is a step of the book's life, or none at all.
 
-use Rattle.std.proofs.Common.{◌≡◌, ℕ, zero, suc, ◌+◌, ◌<◌, ◌≤◌, min, List, [], ◌∷◌, ◌++◌, length, get_or, take, drop, set, sym, refl, ap, ◌∙◌, subst, append_assoc, append-nil, suc-add, zero-add, add-one, arith, length-append, length-take-le, take_all}
+use Rattle.std.proofs.Common.{◌≡◌, ℕ, zero, suc, ◌+◌, ◌-◌, ◌<◌, ◌≤◌, min, List, [], ◌∷◌, ◌++◌, length, get_or, take, drop, set, sym, refl, ap, ◌∙◌, subst, append_assoc, append-nil, suc-add, zero-add, add-one, arith, length-append, length-drop, length-take-le, take_all}
 use native.Mathlib.Nat.{min-eq_left, min-eq_right}
 use native.Mathlib.Decide.{dec_le}
 use lib.Seq.{take-append-le}
-use Rattle.std.proofs.lemmas.List.{drop_all, take_more, take_more_set}
+use Rattle.std.proofs.lemmas.List.{drop_all, drop-drop, take_more, take_more_set}
 use borrow.Rule.Slice.PartMut.{put_mid, post_of}
 use Rattle.binder.specs.Meaning.{Meaning}
 use Rattle.curve.specs.declared.card.Card.{Card}
 use Rattle.calls.specs.declared.Instruction.{Instruction}
 use Rattle.calls.specs.State.{State}
+use Rattle.calls.specs.Call as call
+use Rattle.calls.specs.Call.{Call, given_out}
+use Rattle.calls.specs.Step.{Step}
 use Rattle.calls.specs.Life.{Life, next, Sound}
 use Rattle.calls.proofs.Lives.{every_life_sound}
+use Rattle.life.specs.Lives.{LivesOn}
 use Rattle.life.specs.Turn.{Turn, made, idle, Played, none, more}
 use Rattle.life.specs.declared.order.Order.{Order}
 use Rattle.life.specs.declared.order.Outcome.{Outcome}
@@ -22,6 +26,10 @@ use Rattle.life.specs.declared.order.Outcome.{Outcome}
 take_past : {A : Type 0} (a b : List A) (n : ℕ) → take (length a + n) (a ++ b) ≡ a ++ take n b
 take_past [] b n = rw zero-add
 take_past (x ∷ a) b n = rw suc-add (ap (λ r. x ∷ r) (take_past a b n))
+
+drop_past : {A : Type 0} (a b : List A) (n : ℕ) → drop (length a + n) (a ++ b) ≡ drop n b
+drop_past [] b n = rw zero-add
+drop_past (x ∷ a) b n = rw suc-add (drop_past a b n)
 
 pub drop_past_set : {A : Type 0} (xs : List A) (i : ℕ) (x : A) → drop (i + 1) (set xs i x) ≡ drop (i + 1) xs
 drop_past_set xs i x = rw add-one (go xs i x) where
@@ -66,6 +74,17 @@ module _ (journal rest : List Instruction) (used n size : ℕ) (within : used �
   play_more m k s t u orders outcomes i d r lo lr before turn =
       rw (take_more orders i d lo, take_more_set outcomes i r lr, journal_more) (more before (get_or orders i d) r (take n rest) u turn)
 
+  -- behind the instructions the journal is as the part lent is, and so as it was at the start
+  journal_behind : size ≡ length journal - used → drop (used + n) (put_mid used size journal rest) ≡ drop n rest
+  journal_behind whole =
+      let long : length (take used journal) ≡ used = length-take-le used journal within in
+      let none : post_of used size journal ≡ [] = drop_all size (drop used journal) (omega (arith, length-drop used journal)) in
+      ap (λ u. drop (u + n) (take used journal ++ (rest ++ post_of used size journal))) (sym long) ∙ (drop_past (take used journal) (rest ++ post_of used size journal) n ∙ ap (drop n) (ap (λ y. rest ++ y) none ∙ append-nil rest))
+
+  pub journal_rest : (start lent : List Instruction) → size ≡ length journal - used → lent ≡ drop used journal → drop used journal ≡ drop used start
+      → drop n rest ≡ drop n lent → drop (used + n) (put_mid used size journal rest) ≡ drop (used + n) start
+  journal_rest start lent whole is old e = journal_behind whole ∙ (e ∙ (ap (drop n) (is ∙ old) ∙ drop-drop n used start))
+
 -- what is carried out is lived
 turned : {m : Meaning} {k : Card} {number : ℕ} {o : Order} {s t : State} {r : Outcome} {given new : List Instruction}
     → Life m number s given → Turn m k o s r new t → Life m number t (given ++ new)
@@ -77,6 +96,16 @@ pub lived : {m : Meaning} {k : Card} {number : ℕ} {s t : State} {os : List Ord
 lived {m} {k} {number} {s} {t} {os} {rs} {given} life none = subst (λ xs. Life m number s xs) (sym (append-nil given)) life
 lived {m} {k} {number} {s} {t} {os} {rs} {given} life (more {given = old} before o r new u turn) =
     subst (λ xs. Life m number u xs) (append_assoc given old new) (turned (lived life before) turn)
+
+-- and all that holds of lives holds of it
+pub lives_on : {m : Meaning} {s t : State} {new : List Instruction} → ((number : ℕ) (given : List Instruction) → Life m number s given → Life m number t (given ++ new)) → LivesOn m s t new
+lives_on {m} {s} {t} {new} go number given life = let then = go number given life in (then, every_life_sound m number t (given ++ new) then)
+
+pub rests : (m : Meaning) (s : State) → LivesOn m s s []
+rests m s = lives_on (λ number given life. subst (λ xs. Life m number s xs) (sym (append-nil given)) life)
+
+pub steps : (m : Meaning) (c : Call) (s t : State) (r : call.Outcome) → Step m c s r t → LivesOn m s t (given_out r)
+steps m c s t r step = lives_on (λ number given life. next life c r t step)
 
 pub sound : (m : Meaning) (number : ℕ) (t : State) (given : List Instruction) → Life m number t given → Sound m t given
 sound m number t given life = every_life_sound m number t given life

@@ -1,3 +1,4 @@
 pub mod Turn
 pub mod Matched
 pub mod Reported
+pub mod Lives

@@ -1,4 +1,4 @@
--- A binder of any kind is lawful: by induction over its parts, each kind by its own lemma.
+-- To believe: nothing; the lemma that a binder of any kind gives for its law. It is lawful by induction over its parts, each kind by its own lemma.
 
 use Rattle.binder.specs.Meaning.{Lawful}
 use Rattle.binder.specs.Lawfuls.{single_lawful, without_lawful, joined_lawful}

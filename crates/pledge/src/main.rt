@@ -5,6 +5,7 @@ use script::bad::Unread;
 use session::state::Session;
 use std::fs::File;
 use std::io::{BufRead, BufReader};
+use std::process::ExitCode;
 use std::{env, io};
 
 // How a run ended: every line was played, or it stopped early and standard error says why.
@@ -74,13 +75,14 @@ fn run(rt: &HostRuntime) -> io::Result<Ending> {
     }
 }
 
-fn main(rt: HostRuntime) -> io::Result<()> {
+// An error that `main` returned would be printed once more, so it returns the status alone.
+fn main(rt: HostRuntime) -> ExitCode {
     match run(&rt) {
-        Ok(Ending::Played) => Ok(()),
-        Ok(Ending::Stopped) => Err(io::Error::from(io::ErrorKind::InvalidData)),
+        Ok(Ending::Played) => ExitCode::SUCCESS,
+        Ok(Ending::Stopped) => ExitCode::FAILURE,
         Err(e) => {
-            eprintln!(rt; "pledge: {e}")?;
-            Err(e)
+            let _ = eprintln!(rt; "pledge: {e}");
+            ExitCode::FAILURE
         }
     }
 }

@@ -1,6 +1,6 @@
 -- To believe: which words say which line.
 
-use Rattle.std.specs.Prelude.{ℕ, ◌<◌, List, [], ◌∷◌, vec_items, codes, Vec}
+use Rattle.std.specs.Prelude.{ℕ, ◌<◌, List, [], ◌∷◌, codes, Vec}
 use Rattle.curve.specs.declared.lot.Terms.{Terms}
 use Rattle.std.specs.declared.alloc.Global.{Global}
 use Rattle.script.specs.Numerals.{Decimal, HexByte}
@@ -22,7 +22,7 @@ pub data Fields : List (List ℕ) → Terms → Type 0 where
 -- the words of a line, the first of which names it
 pub data Says : List (List ℕ) → Line → Type 0 where
   book : {w : List ℕ} {n : ℕ} → Decimal w n → n < 65536 → Says (codes "book" ∷ w ∷ []) (Book n)
-  page : {w : List ℕ} {ws : List (List ℕ)} {class : ℕ} {v : Vec ℕ Global} → Decimal w class → Spelt ws (vec_items v) → Says (codes "page" ∷ w ∷ ws) (Page class v)
+  page : {w : List ℕ} {ws : List (List ℕ)} {class : ℕ} {v : Vec ℕ Global} → Decimal w class → Spelt ws v.items → Says (codes "page" ∷ w ∷ ws) (Page class v)
   add : {w : List ℕ} {ws : List (List ℕ)} {place : ℕ} {t : Terms} → Decimal w place → Fields ws t → Says (codes "add" ∷ w ∷ ws) (Add place t)
 
 -- a text begins with the name of a field and its number

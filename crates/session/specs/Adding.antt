@@ -1,6 +1,6 @@
 -- To believe: when a lot is added, and why it is refused.
 
-use Rattle.std.specs.Prelude.{◌≡◌, ℕ, ◌<◌, ◌≤◌, Bool, true, false, List, get_or, slice_index_or, slice_set}
+use Rattle.std.specs.Prelude.{◌≡◌, ℕ, ◌<◌, ◌≤◌, Bool, true, false, List, slice_index_or, slice_set}
 use Rattle.cause.specs.declared.Cause.{Cause}
 use Rattle.cause.specs.declared.Cause.TheVariants.{PlaceOutside, PlaceTaken}
 use Rattle.curve.specs.Points.{Points}
@@ -11,7 +11,7 @@ use Rattle.curve.specs.declared.lot.Lot.{Lot}
 -- the place was free, the lot is priced under the curves, and the place is taken
 pub record Added (before after : List Bool) (curves : ℕ → Points) (place : ℕ) (t : Terms) (l : Lot) : Type 0 where
   pub range : place ≤ 63
-  pub free : get_or before place false ≡ false
+  pub free : slice_index_or before place false ≡ false
   pub priced : Priced curves t l
   pub taken : after ≡ slice_set before place true
 

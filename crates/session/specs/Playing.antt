@@ -1,6 +1,6 @@
 -- To believe: what each line does to a session, and with which outcome.
 
-use Rattle.std.specs.Prelude.{◌≡◌, ℕ, ◌<◌, true, false, replicate, is_some, Some, None, vec_items, Vec}
+use Rattle.std.specs.Prelude.{◌≡◌, ℕ, ◌<◌, true, false, replicate, is_some, Some, None, Vec}
 use Rattle.curve.specs.Points.{Points}
 use Rattle.curve.specs.Card.{nth_points, Loaded, Unloaded, cause_of_load}
 use Rattle.curve.specs.declared.card.CardFault.{CardFault}
@@ -70,10 +70,10 @@ curves s = nth_points s.card.curves
 
 pub data Plays (before after : Session) : Line → Outcome → Type 0 where
   book : {n : ℕ} → Opens before after n → Plays before after (Book n) (record { subject = OfBook n; answer = Opened })
-  page : {class n : ℕ} {v : Vec ℕ Global} → Loads before after → Loaded (vec_items v) class (curves before) (curves after) n
+  page : {class n : ℕ} {v : Vec ℕ Global} → Loads before after → Loaded v.items class (curves before) (curves after) n
       → Plays before after (Page class v) (record { subject = OfPage class; answer = Answered n })
   no_page : {class : ℕ} {v : Vec ℕ Global} {r : Refusal} (f : CardFault) → Loads before after
-      → Unloaded (vec_items v) class f → Names r f → after.card ≡ before.card
+      → Unloaded v.items class f → Names r f → after.card ≡ before.card
       → Plays before after (Page class v) (record { subject = OfPage class; answer = Refused r })
   add : {place : ℕ} {t : Terms} {l : Lot} → Calls before after → Added before.taken after.taken (curves before) place t l
       → Plays before after (Add place t) (record { subject = OfAdd place; answer = Value l.worth })

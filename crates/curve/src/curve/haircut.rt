@@ -2,7 +2,7 @@
 
 ghost use Rattle.std.specs.Prelude.{◌≡◌, ℕ, ◌+◌, ◌-◌, ◌*◌, ◌^◌, ◌<◌, ◌≤◌, MatchResult};
 ghost use Rattle.cause.specs.declared.Cause.TheVariants.{PastCurve};
-ghost use Rattle.curve.specs.Points.{rounded_up_lem as up, between as between_points, Haircut, Past};
+ghost use Rattle.curve.specs.Points.{quotient_up as up, between as between_points, Haircut, Past};
 ghost use Rattle.curve.specs.Held.{held};
 
 use crate::curve::Curve;

@@ -6,6 +6,7 @@ ghost use Rattle.binder.specs.Meaning.{Meaning};
 ghost use Rattle.curve.specs.declared.card.Card.{Card as Carded};
 ghost use Rattle.book.specs.View.{view};
 ghost use Rattle.life.specs.Turn.{Turn, Played, count_of};
+ghost use Rattle.life.specs.Lives.{LivesOn, Ends};
 ghost use Rattle.life.specs.Matched.{Matched};
 ghost use Rattle.life.specs.Reported.{reported};
 ghost use Rattle.life.specs.declared.order.Order.TheVariants.{Add, Withdraw, Open, Close, Begin, Allocate, Settle, Abandon};
@@ -60,6 +61,7 @@ fn open<B: Binder>(book: &mut Book, binder: &B, place: u64, amount: u64, schedul
 fn close(book: &mut Book, place: u64, list: &mut [Instruction]) -> Outcome
     ensures turn { (m : Meaning) (k : Carded) → Turn m k (Close place) (view book.old) result (take (count_of result) list.new) (view book.new) }
     ensures room { count_of result ≤ length list.old }
+    ensures rest { drop (count_of result) list.new ≡ drop (count_of result) list.old }
 {
     match book.close(place, list) {
         Ok(count) => Outcome::Closed(count),
@@ -118,6 +120,7 @@ fn settle(book: &mut Book, slip: Option<Slip>, list: &mut [Instruction]) -> (Out
     requires { Matched book.old slip }
     ensures turn { (m : Meaning) (k : Carded) → Turn m k Settle (view book.old) result.0 (take (count_of result.0) list.new) (view book.new) }
     ensures room { count_of result.0 ≤ length list.old }
+    ensures rest { drop (count_of result.0) list.new ≡ drop (count_of result.0) list.old }
     ensures matched { Matched book.new result.1 }
 {
     match slip {
@@ -135,6 +138,7 @@ fn abandon(book: &mut Book, slip: Option<Slip>) -> (Outcome, Option<Slip>)
     ensures turn { (m : Meaning) (k : Carded) → Turn m k Abandon (view book.old) result.0 [] (view book.new) }
     ensures matched { Matched book.new result.1 }
     ensures gone { result.1 ≡ None }
+    ensures lives { (m : Meaning) → LivesOn m (view book.old) (view book.new) [] }
 {
     match slip {
         None => (Outcome::NoSlip, None),
@@ -157,6 +161,7 @@ fn carry_out<B: Binder>(
     requires { Matched book.old slip }
     ensures turn { Turn (B.Binder.meaning binder.now) card.now order (view book.old) result.0 (take (count_of result.0) list.new) (view book.new) }
     ensures room { count_of result.0 ≤ length list.old }
+    ensures rest { drop (count_of result.0) list.new ≡ drop (count_of result.0) list.old }
     ensures matched { Matched book.new result.1 }
 {
     match order {
@@ -196,6 +201,7 @@ fn carry_out_all<B: Binder>(
     ensures played { Played (B.Binder.meaning binder.now) card.now (view book.old) (take (length outcomes.old) orders.now) (take (length orders.now) outcomes.new) (take result.1 journal.new) (view book.new) }
     ensures rest { drop (length orders.now) outcomes.new ≡ drop (length orders.now) outcomes.old }
     ensures room { result.1 ≤ length journal.old }
+    ensures behind { drop result.1 journal.new ≡ drop result.1 journal.old }
     ensures matched { Matched book.new result.0 }
 {
     let n = orders.len().min(outcomes.len());
@@ -236,6 +242,7 @@ impl<B: Binder> Session<B> {
         ensures played { Played (B.Binder.meaning self.binder) self.card (view self.book) (take (length outcomes.old) orders.now) (take (length orders.now) outcomes.new) (take result.1 journal.new) (view result.0.book) }
         ensures rest { drop (length orders.now) outcomes.new ≡ drop (length orders.now) outcomes.old }
         ensures room { result.1 ≤ length journal.old }
+        ensures behind { drop result.1 journal.new ≡ drop result.1 journal.old }
         ensures law { (number : ℕ) (given : List Instructed) → Life (B.Binder.meaning self.binder) number (view self.book) given
             → Life (B.Binder.meaning self.binder) number (view result.0.book) (given ++ take result.1 journal.new)
             × Sound (B.Binder.meaning self.binder) (view result.0.book) (given ++ take result.1 journal.new) }
@@ -273,6 +280,7 @@ impl<B: Binder> Session<B> {
         ensures played { Played (B.Binder.meaning self.binder) self.card (view self.book) (take (length outcomes.old) orders.now) (take (length orders.now) outcomes.new) (take result.1 journal.new) (view result.0.book) }
         ensures rest { drop (length orders.now) outcomes.new ≡ drop (length orders.now) outcomes.old }
         ensures room { result.1 ≤ length journal.old }
+        ensures behind { drop result.1 journal.new ≡ drop result.1 journal.old }
         ensures law { (number : ℕ) (given : List Instructed) → Life (B.Binder.meaning self.binder) number (view self.book) given
             → Life (B.Binder.meaning self.binder) number (view result.0.book) (given ++ take result.1 journal.new)
             × Sound (B.Binder.meaning self.binder) (view result.0.book) (given ++ take result.1 journal.new) }
@@ -304,6 +312,7 @@ impl<B: Binder> Session<B> {
     pub fn end(self) -> (B, Option<u32>)
         ensures binder { result.0 ≡ self.binder }
         ensures run { result.1 ≡ run_open (view self.book) }
+        ensures ends { (m : Meaning) → Ends m (view self.book) }
     {
         let Session {
             mut book,

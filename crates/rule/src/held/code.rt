@@ -1,7 +1,7 @@
 // Writing a rule's steps.
 
 ghost use Rattle.std.specs.Prelude.{◌≡◌, ◌+◌, ◌<◌, ◌≤◌, [], ◌∷◌, ◌++◌, length};
-ghost use Rattle.rule.specs.Machine.{bit, step_if, finished, ended as EndedBy};
+ghost use Rattle.rule.specs.Machine.{bit, step_if, finished, ended as ended_by};
 ghost use Rattle.rule.specs.Views.{code as written};
 
 use crate::held::Rule;
@@ -38,7 +38,7 @@ impl Rule {
     // What waited for a term is written after it.
     pub(crate) fn end(&mut self, level: Level)
         requires { length (written self.old) + bit level.either ≤ 64 }
-        ensures { written self.new ≡ EndedBy level (written self.old) }
+        ensures { written self.new ≡ ended_by level (written self.old) }
     {
         self.push_if(level.either, Step::Either);
     }

@@ -10,5 +10,6 @@ returns g c =
       played = e.played;
       rest = e.rest;
       room = e.room;
+      behind = e.behind;
       law = λ number given life. (let now = lived life e.played in (now, sound (g.B.Binder.meaning c.args.self.binder) number _ _ now));
     }

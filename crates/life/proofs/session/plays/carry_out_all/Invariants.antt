@@ -9,3 +9,4 @@ invariant-loop-i g v = (v.used ≤ length v.journal)
     × Matched v.book v.slip
     × Played (g.B.Binder.meaning v.binder) v.card (view v.initial.book) (take v.i v.orders) (take v.i v.outcomes) (take v.used v.journal) (view v.book)
     × (drop v.i v.outcomes ≡ drop v.i v.initial.outcomes)
+    × (drop v.used v.journal ≡ drop v.used v.initial.journal)
