@@ -13,12 +13,8 @@ use Rattle.binder.specs.Meaning.{Meaning}
 use Rattle.curve.specs.declared.card.Card.{Card}
 use Rattle.calls.specs.declared.Instruction.{Instruction}
 use Rattle.calls.specs.State.{State}
-use Rattle.calls.specs.Call as call
-use Rattle.calls.specs.Call.{Call, given_out}
-use Rattle.calls.specs.Step.{Step}
 use Rattle.calls.specs.Life.{Life, next, Sound}
 use Rattle.calls.proofs.Lives.{every_life_sound}
-use Rattle.life.specs.Lives.{LivesOn}
 use Rattle.life.specs.Turn.{Turn, made, idle, Played, none, more}
 use Rattle.life.specs.declared.order.Order.{Order}
 use Rattle.life.specs.declared.order.Outcome.{Outcome}
@@ -96,16 +92,6 @@ pub lived : {m : Meaning} {k : Card} {number : ℕ} {s t : State} {os : List Ord
 lived {m} {k} {number} {s} {t} {os} {rs} {given} life none = subst (λ xs. Life m number s xs) (sym (append-nil given)) life
 lived {m} {k} {number} {s} {t} {os} {rs} {given} life (more {given = old} before o r new u turn) =
     subst (λ xs. Life m number u xs) (append_assoc given old new) (turned (lived life before) turn)
-
--- and all that holds of lives holds of it
-pub lives_on : {m : Meaning} {s t : State} {new : List Instruction} → ((number : ℕ) (given : List Instruction) → Life m number s given → Life m number t (given ++ new)) → LivesOn m s t new
-lives_on {m} {s} {t} {new} go number given life = let then = go number given life in (then, every_life_sound m number t (given ++ new) then)
-
-pub rests : (m : Meaning) (s : State) → LivesOn m s s []
-rests m s = lives_on (λ number given life. subst (λ xs. Life m number s xs) (sym (append-nil given)) life)
-
-pub steps : (m : Meaning) (c : Call) (s t : State) (r : call.Outcome) → Step m c s r t → LivesOn m s t (given_out r)
-steps m c s t r step = lives_on (λ number given life. next life c r t step)
 
 pub sound : (m : Meaning) (number : ℕ) (t : State) (given : List Instruction) → Life m number t given → Sound m t given
 sound m number t given life = every_life_sound m number t given life

@@ -1,4 +1,3 @@
 pub mod Turn
 pub mod Matched
 pub mod Reported
-pub mod Lives

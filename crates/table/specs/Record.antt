@@ -1,4 +1,4 @@
--- To believe: when a shortage record explains a shortage.
+-- To believe: when a shortage record explains a shortage, and which cut it draws.
 
 use Rattle.std.specs.Prelude.{◌≡◌, ℕ, ◌+◌, ◌<◌, Bool, true, false, not, ◌&&◌, ◌||◌}
 use Rattle.network.specs.Sums.{sum_over, when}

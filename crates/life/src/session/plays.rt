@@ -6,7 +6,6 @@ ghost use Rattle.binder.specs.Meaning.{Meaning};
 ghost use Rattle.curve.specs.declared.card.Card.{Card as Carded};
 ghost use Rattle.book.specs.View.{view};
 ghost use Rattle.life.specs.Turn.{Turn, Played, count_of};
-ghost use Rattle.life.specs.Lives.{LivesOn, Ends};
 ghost use Rattle.life.specs.Matched.{Matched};
 ghost use Rattle.life.specs.Reported.{reported};
 ghost use Rattle.life.specs.declared.order.Order.TheVariants.{Add, Withdraw, Open, Close, Begin, Allocate, Settle, Abandon};
@@ -61,7 +60,7 @@ fn open<B: Binder>(book: &mut Book, binder: &B, place: u64, amount: u64, schedul
 fn close(book: &mut Book, place: u64, list: &mut [Instruction]) -> Outcome
     ensures turn { (m : Meaning) (k : Carded) → Turn m k (Close place) (view book.old) result (take (count_of result) list.new) (view book.new) }
     ensures room { count_of result ≤ length list.old }
-    ensures rest { drop (count_of result) list.new ≡ drop (count_of result) list.old }
+    ensures behind { drop (count_of result) list.new ≡ drop (count_of result) list.old }
 {
     match book.close(place, list) {
         Ok(count) => Outcome::Closed(count),
@@ -120,7 +119,7 @@ fn settle(book: &mut Book, slip: Option<Slip>, list: &mut [Instruction]) -> (Out
     requires { Matched book.old slip }
     ensures turn { (m : Meaning) (k : Carded) → Turn m k Settle (view book.old) result.0 (take (count_of result.0) list.new) (view book.new) }
     ensures room { count_of result.0 ≤ length list.old }
-    ensures rest { drop (count_of result.0) list.new ≡ drop (count_of result.0) list.old }
+    ensures behind { drop (count_of result.0) list.new ≡ drop (count_of result.0) list.old }
     ensures matched { Matched book.new result.1 }
 {
     match slip {
@@ -138,7 +137,6 @@ fn abandon(book: &mut Book, slip: Option<Slip>) -> (Outcome, Option<Slip>)
     ensures turn { (m : Meaning) (k : Carded) → Turn m k Abandon (view book.old) result.0 [] (view book.new) }
     ensures matched { Matched book.new result.1 }
     ensures gone { result.1 ≡ None }
-    ensures lives { (m : Meaning) → LivesOn m (view book.old) (view book.new) [] }
 {
     match slip {
         None => (Outcome::NoSlip, None),
@@ -161,7 +159,7 @@ fn carry_out<B: Binder>(
     requires { Matched book.old slip }
     ensures turn { Turn (B.Binder.meaning binder.now) card.now order (view book.old) result.0 (take (count_of result.0) list.new) (view book.new) }
     ensures room { count_of result.0 ≤ length list.old }
-    ensures rest { drop (count_of result.0) list.new ≡ drop (count_of result.0) list.old }
+    ensures behind { drop (count_of result.0) list.new ≡ drop (count_of result.0) list.old }
     ensures matched { Matched book.new result.1 }
 {
     match order {
@@ -312,7 +310,6 @@ impl<B: Binder> Session<B> {
     pub fn end(self) -> (B, Option<u32>)
         ensures binder { result.0 ≡ self.binder }
         ensures run { result.1 ≡ run_open (view self.book) }
-        ensures ends { (m : Meaning) → Ends m (view self.book) }
     {
         let Session {
             mut book,

@@ -9,7 +9,7 @@ returns-in-Add g c =
     record {
       turn = turn_of c.in-Add.is (none_taken c.add.result c.args.list.now c.add.ensures.none turn);
       room = omega (arith, c.add.ensures.none);
-      rest = refl;
+      behind = refl;
       matched = still_held (view c.args.book.now) (view c.add.new.book) c.args.slip (add_keeps turn) c.requires;
     }
 
@@ -19,7 +19,7 @@ returns-in-Withdraw g c =
     record {
       turn = turn_of c.in-Withdraw.is (none_taken c.withdraw.result c.args.list.now c.withdraw.ensures.none turn);
       room = omega (arith, c.withdraw.ensures.none);
-      rest = refl;
+      behind = refl;
       matched = still_held (view c.args.book.now) (view c.withdraw.new.book) c.args.slip (withdraw_keeps turn) c.requires;
     }
 
@@ -29,7 +29,7 @@ returns-in-Open g c =
     record {
       turn = turn_of c.in-Open.is (none_taken c.open.result c.args.list.now c.open.ensures.none turn);
       room = omega (arith, c.open.ensures.none);
-      rest = refl;
+      behind = refl;
       matched = still_held (view c.args.book.now) (view c.open.new.book) c.args.slip (open_keeps turn) c.requires;
     }
 
@@ -39,7 +39,7 @@ returns-in-Allocate g c =
     record {
       turn = turn_of c.in-Allocate.is (none_taken c.allocate.result c.args.list.now c.allocate.ensures.none turn);
       room = omega (arith, c.allocate.ensures.none);
-      rest = refl;
+      behind = refl;
       matched = still_held (view c.args.book.now) (view c.allocate.new.book) c.args.slip (allocate_keeps turn) c.requires;
     }
 
@@ -49,6 +49,6 @@ returns-in-Close g c =
     record {
       turn = turn_of c.in-Close.is turn;
       room = c.close.ensures.room;
-      rest = c.close.ensures.rest;
+      behind = c.close.ensures.behind;
       matched = still_held (view c.args.book.now) (view c.close.new.book) c.args.slip (close_keeps turn) c.requires;
     }

@@ -28,7 +28,7 @@ loop-i-preserved g c =
       play_more journal rest used n size inv.0 room (g.B.Binder.meaning c.args.binder.now) c.args.card.now (view c.args.book.now) (view c.loop-i.book) (view c.carry_out-outcome.new.book)
           c.args.orders.now c.loop-i.outcomes c.loop-i.i (Add 0 (record { issuer = 0; class = 0; rating = 0; months = 0; market = 0 })) outcome low.0 (omega (arith, low.1, c.loop-i.auto.outcomes)) inv.2 e.turn,
       drop_next c.loop-i.outcomes c.args.outcomes.now c.loop-i.i outcome inv.3,
-      journal_rest journal rest used n size inv.0 room c.args.journal.now (take size (drop used journal)) refl (take_rest journal used) inv.4 e.rest,
+      journal_rest journal rest used n size inv.0 room c.args.journal.now (take size (drop used journal)) refl (take_rest journal used) inv.4 e.behind,
     )
 
 pub returns : goal.returns

@@ -11,7 +11,7 @@ pub returns-in-None : goal.returns-in-None
 returns-in-None c =
     let s = view c.args.book.now in
     let held = subst (λ x. has_slip s x ≡ true) c.in-None.is c.requires in
-    record { turn = λ m k. idle (λ list note. no_call s (λ n. settle n list) held); room = omega arith; rest = refl; matched = held }
+    record { turn = λ m k. idle (λ list note. no_call s (λ n. settle n list) held); room = omega arith; behind = refl; matched = held }
 
 pub returns-in-Ok : goal.returns-in-Ok
 returns-in-Ok c =
@@ -22,7 +22,7 @@ returns-in-Ok c =
     record {
       turn = λ m k. made list blank_note (settle (numbers x) list) (slip_call s x (λ n. settle n list) held) _ _ (c.in-Ok.ensures.step m);
       room = c.in-Ok.ensures.room;
-      rest = settled_rest no_meaning s (view c.settle.new.self) (numbers x) list _ _ (c.in-Ok.ensures.step no_meaning);
+      behind = settled_rest no_meaning s (view c.settle.new.self) (numbers x) list _ _ (c.in-Ok.ensures.step no_meaning);
       matched = over (view c.settle.new.self) (settled_over no_meaning s (view c.settle.new.self) (numbers x) list _ _ (c.in-Ok.ensures.step no_meaning));
     }
 
@@ -35,6 +35,6 @@ returns-in-Err c =
     record {
       turn = λ m k. made list blank_note (settle (numbers x) list) (slip_call s x (λ n. settle n list) held) _ _ (c.in-Err.ensures.step m);
       room = omega arith;
-      rest = settle_kept no_meaning s _ x c.in-Err.slip list _ c.in-Err.cause (c.in-Err.ensures.step no_meaning);
+      behind = settle_kept no_meaning s _ x c.in-Err.slip list _ c.in-Err.cause (c.in-Err.ensures.step no_meaning);
       matched = settle_back no_meaning s _ x c.in-Err.slip held list _ c.in-Err.cause (c.in-Err.ensures.step no_meaning);
     }
