@@ -1,4 +1,4 @@
-use Rattle.rule_trial.proofs.+write.Given as goal
+use Rattle.rule_trial.proofs.made.+write.Given as goal
 
 abbrev pub decreases-write : goal.decreases-write
 decreases-write l = l.fuel
