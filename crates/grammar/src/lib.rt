@@ -6,7 +6,7 @@ ghost use Rattle.grammar.specs.Figures.{Figures};
 ghost use Rattle.grammar.specs.Laws.{OneFault, OneMeaning, OneTree, Precedence};
 
 // What a rule asks about.
-#[derive(Clone, Copy)]
+#[derive(Clone, Copy, PartialEq, Eq, Debug)]
 pub struct Description {
     pub class: u16,
     pub rating: u16,
@@ -15,7 +15,7 @@ pub struct Description {
 }
 
 // The fields of a description that a test may name: `c`, `r`, `m`, `i`.
-#[derive(Clone, Copy)]
+#[derive(Clone, Copy, PartialEq, Eq, Debug)]
 pub enum Field {
     Class,
     Rating,
@@ -24,7 +24,7 @@ pub enum Field {
 }
 
 // How a test compares the field with its number: `=`, `<`, `>`.
-#[derive(Clone, Copy)]
+#[derive(Clone, Copy, PartialEq, Eq, Debug)]
 pub enum Sign {
     Equal,
     Less,
