@@ -27,12 +27,9 @@ impl<'a> Reader<'a> {
             (λ b. (b ≡ slice_index self.old.bytes.now self.old.at) × (self.new.at ≡ self.old.at + 1) × (self.old.at < length self.old.bytes.now))
             (λ _. (self.new.at ≡ self.old.at) × (length self.old.bytes.now ≤ self.old.at)) }
     {
-        if self.at >= self.bytes.len() {
-            return Err(Ended);
-        }
-        let b = self.bytes[self.at];
+        let byte = *self.bytes.get(self.at).ok_or(Ended)?;
         self.at += 1;
-        Ok(b)
+        Ok(byte)
     }
 
     // The next two bytes as one number, the low byte first.
@@ -42,12 +39,8 @@ impl<'a> Reader<'a> {
             (λ v. Spelt self.old.bytes.now self.old.at v × (self.new.at ≡ self.old.at + 2) × (self.old.at + 2 ≤ length self.old.bytes.now))
             (λ _. (self.new.at ≡ self.old.at) × (length self.old.bytes.now < self.old.at + 2)) }
     {
-        let size = self.bytes.len();
-        if size < 2 || self.at > size - 2 {
-            return Err(Ended);
-        }
-        let low = self.bytes[self.at];
-        let high = self.bytes[self.at + 1];
+        let rest = self.bytes.get(self.at..).ok_or(Ended)?;
+        let [low, high] = *rest.first_chunk::<2>().ok_or(Ended)?;
         self.at += 2;
         Ok(u16::from_le_bytes([low, high]))
     }
