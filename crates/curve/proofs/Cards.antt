@@ -1,12 +1,9 @@
--- The curves of a card, and a fault on its way up.
+-- The curves of a card.
 
-use Rattle.std.proofs.Common.{◌≡◌, ℕ, zero, suc, ◌<◌, List, [], ◌∷◌, length, get_or, set, Ok, Err, Result, refl, ap, subst, arith, MatchResult}
+use Rattle.std.proofs.Common.{◌≡◌, ℕ, zero, suc, ◌<◌, List, [], ◌∷◌, length, get_or, set, Ok, Err, Result, refl, ap, arith, MatchResult, IsErrAnd}
 use Rattle.curve.specs.Held.{held}
-use Rattle.curve.specs.Card.{nth_points, with_class}
+use Rattle.curve.specs.Card.{nth_points}
 use Rattle.curve.specs.declared.curve.Curve.{Curve}
-use Rattle.curve.specs.declared.curve.page.PageFault.{PageFault}
-use Rattle.curve.specs.declared.card.CardFault.{CardFault}
-use Rattle.curve.specs.declared.card.CardFault.TheVariants.{Page}
 
 pub nth_points_set : (cs : List Curve) (k : ℕ) (c : Curve) → k < length cs → nth_points (set cs k c) k ≡ held c
 nth_points_set [] k c h = absurd (omega arith)
@@ -20,17 +17,15 @@ nth_points_other (x ∷ cs) zero (suc j) c h = refl
 nth_points_other (x ∷ cs) (suc k) zero c h = refl
 nth_points_other (x ∷ cs) (suc k) (suc j) c h = nth_points_other cs k j c (λ e. h (ap suc e))
 
-module _ (P : ℕ → Type 0) (Q : PageFault → Type 0) (k : ℕ) where
-  pub passed : (r : Result ℕ PageFault) (n : ℕ) → MatchResult r P Q → with_class r k ≡ Ok n → P n
-  passed (Ok m) n c e = let i : m ≡ n = cc in subst P i c
-  passed (Err f) n c e = let z : ◌≡◌ {A = ℕ} 0 1 = cc in absurd (omega arith)
-
-  pub failed : (r : Result ℕ PageFault) (f : CardFault) → MatchResult r P Q → with_class r k ≡ Err f → (e : PageFault) × (f ≡ Page e k) × Q e
-  failed (Ok m) f c e = let z : ◌≡◌ {A = ℕ} 0 1 = cc in absurd (omega arith)
-  failed (Err x) f c e = (x, (let i : f ≡ Page x k = cc in i), c)
-
 -- the curve that is read at a place of the card
 pub nth_points_read : (cs : List Curve) (k : ℕ) (d : Curve) → k < length cs → nth_points cs k ≡ held (get_or cs k d)
 nth_points_read [] k d h = absurd (omega arith)
 nth_points_read (x ∷ cs) zero d h = refl
 nth_points_read (x ∷ cs) (suc k) d h = nth_points_read cs k d (omega arith)
+
+-- a page's fault, changed on its way up
+pub mapped : {X E F : Type 0} (r : Result X E) (m : Result X F) (P : X → Type 0) (Q : E → Type 0) (G : E → F → Type 0) → MatchResult r P Q
+    → MatchResult r (λ x. m ≡ Ok x) (λ e. IsErrAnd m (G e)) → MatchResult m P (λ f. (e : E) × Q e × G e f)
+mapped (Ok x) m P Q G p e = rw e p
+mapped (Err y) (Ok x) P Q G q h = absurd h
+mapped (Err y) (Err z) P Q G q h = (y, q, h)

@@ -5,4 +5,5 @@ pub mod Rising
 pub mod Writing
 pub mod Cards
 pub mod Ordered
+pub mod Listed
 pub mod Faithful

@@ -40,10 +40,10 @@ module _ (c : Points) (law : Lawful c) where
       subst (λ k. c.haircut i ≤ c.haircut k) e (omega (arith, later_haircut i d (omega arith), next_haircut (i + d) (omega arith)))
 
   -- by the numbers of two points
-  months_rise : (i j : ℕ) → i < j → j < c.count → c.month i < c.month j
+  pub months_rise : (i j : ℕ) → i ≤ j → j < c.count → c.month i + (j - i) ≤ c.month j
   months_rise i j l h =
       let e : i + (j - i) ≡ j = omega arith in
-      subst (λ k. c.month i < c.month k) e (omega (arith, later_month i (j - i) (omega arith)))
+      subst (λ k. c.month i + (j - i) ≤ c.month k) e (later_month i (j - i) (omega arith))
 
   points_rise : (i j : ℕ) → i ≤ j → j < c.count → c.haircut i ≤ c.haircut j
   points_rise i j l h =
@@ -52,7 +52,7 @@ module _ (c : Points) (law : Lawful c) where
 
   -- a point whose month is no later has no larger number
   order : (i j : ℕ) → i < c.count → c.month i ≤ c.month j → i ≤ j
-  order i j h l = elim (dec_lt j i) [ yes w ↦ absurd (omega (arith, months_rise j i w h)) | no w ↦ omega arith ]
+  order i j h l = elim (dec_lt j i) [ yes w ↦ absurd (omega (arith, months_rise j i (omega arith) h)) | no w ↦ omega arith ]
 
   order_less : (i j : ℕ) → i < c.count → c.month i < c.month j → i < j
   order_less i j h l = elim (dec_lt i j) [

@@ -22,11 +22,6 @@ abbrev pub cause_of_load : CardFault → Cause
 cause_of_load (Page f k) = f.cause
 cause_of_load (Class k) = FieldOutside
 
--- a page's fault with the class added
-abbrev pub with_class : Result ℕ PageFault → ℕ → Result ℕ CardFault
-with_class (Ok n) k = Ok n
-with_class (Err f) k = Err (Page f k)
-
 -- a class is refused: for its page, with the class added, or for the class alone where the page has no fault
 pub data Unloaded (bs : List ℕ) (class : ℕ) : CardFault → Type 0 where
   page : {k : Cause} {j : ℕ} → Refused bs k j → Unloaded bs class (Page (record { cause = k; point = j }) class)

@@ -1,6 +1,6 @@
 pub mod Points
 pub mod Page
-pub mod Columns
+pub mod Listed
 pub mod Held
 pub mod Changes
 pub mod Card

@@ -1,21 +1,25 @@
-ghost use Rattle.std.specs.Prelude.{◌≡◌, ◌≤◌, length};
-ghost use Rattle.curve.specs.Points.{points, NoneBelow, month_breaks, haircut_breaks};
+ghost use Rattle.std.specs.Prelude.{◌≡◌, ◌≤◌, length, take};
+ghost use Rattle.curve.specs.Points.{NoneBelow, month_breaks, haircut_breaks};
+ghost use Rattle.curve.specs.Listed.{listed};
 
 pub mod haircut;
 pub mod page;
+pub mod point;
 pub mod write;
 
-// 1 to 16 points, each a month and a haircut in ten-thousandths. The month of the first is 0,
-// months rise, haircuts never fall: a curve that breaks this cannot be made.
-#[derive(Clone, Copy)]
+use crate::curve::point::Point;
+
+// 1 to 16 points. The month of the first is 0, months rise, haircuts never fall: a curve that
+// breaks this cannot be made.
+#[derive(Clone, Copy, PartialEq, Eq, Debug)]
 pub struct Curve {
+    // beside the array, and no vector with a length of its own: a curve is Copy, and those are not
     count: usize,
-    months: [u16; 16],
-    haircuts: [u16; 16],
-    ghost full: { (length months ≡ 16) × (length haircuts ≡ 16) },
+    points: [Point; 16],
+    ghost full: { length points ≡ 16 },
     ghost some: { (1 ≤ count) × (count ≤ 16) },
-    ghost rising: { NoneBelow count (month_breaks (points count months haircuts).month) },
-    ghost falling: { NoneBelow count (haircut_breaks (points count months haircuts).haircut) },
+    ghost rising: { NoneBelow count (month_breaks (listed count points).month) },
+    ghost falling: { NoneBelow count (haircut_breaks (listed count points).haircut) },
 }
 
 impl Curve {
@@ -24,5 +28,11 @@ impl Curve {
         ensures { result ≡ self.now.count }
     {
         self.count
+    }
+
+    fn points(&self) -> &[Point]
+        ensures { result.now ≡ take self.now.count self.now.points }
+    {
+        &self.points[..self.count]
     }
 }

@@ -20,6 +20,13 @@ impl<'a> Reader<'a> {
         Reader { bytes, at: 0 }
     }
 
+    // A reader that begins at a place.
+    pub(crate) fn starting(bytes: &'a [u8], at: usize) -> Reader<'a>
+        ensures { (result.bytes.now ≡ bytes.now) × (result.at ≡ at) }
+    {
+        Reader { bytes, at }
+    }
+
     // The next byte.
     pub fn byte(&mut self) -> Result<u8, Ended>
         ensures same { self.new.bytes.now ≡ self.old.bytes.now }

@@ -2,12 +2,11 @@ ghost use Rattle.std.specs.Prelude.{◌≡◌, ℕ, ◌<◌, ◌≤◌, MatchRes
 ghost use Rattle.cause.specs.declared.Cause.TheVariants.{PastCurve};
 ghost use Rattle.curve.specs.Points.{Haircut, Past};
 ghost use Rattle.curve.specs.Page.{Accepted};
-ghost use Rattle.curve.specs.Card.{nth_points, Replaced, Loaded, Unloaded, cause_of_load, with_class};
+ghost use Rattle.curve.specs.Card.{nth_points, Replaced, Loaded, Unloaded, cause_of_load};
 ghost use Rattle.curve.specs.Held.{held};
 
 use crate::card::{Card, CardFault};
 use crate::curve::Curve;
-use crate::curve::page::PageFault;
 use cause::Cause;
 
 impl CardFault {
@@ -21,16 +20,6 @@ impl CardFault {
     }
 }
 
-// Adds the class to a page's fault.
-fn in_class(read: Result<usize, PageFault>, class: u64) -> Result<usize, CardFault>
-    ensures { result ≡ with_class read class }
-{
-    match read {
-        Ok(n) => Ok(n),
-        Err(fault) => Err(CardFault::Page(fault, class)),
-    }
-}
-
 // The curve of a class from its page.
 fn curve_of(class: u64, page: &[u8]) -> Result<Curve, CardFault>
     ensures { MatchResult result
@@ -38,7 +27,9 @@ fn curve_of(class: u64, page: &[u8]) -> Result<Curve, CardFault>
         (λ e. Unloaded page.now class e) }
 {
     let mut curve = Curve::blank();
-    in_class(curve.read(page), class)?;
+    curve
+        .read(page)
+        .map_err(|fault| CardFault::Page(fault, class))?;
     if class > 7 {
         return Err(CardFault::Class(class));
     }

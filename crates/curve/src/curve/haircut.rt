@@ -6,6 +6,7 @@ ghost use Rattle.curve.specs.Points.{quotient_up as up, between as between_point
 ghost use Rattle.curve.specs.Held.{held};
 
 use crate::curve::Curve;
+use crate::curve::point::Point;
 use cause::Cause;
 
 // A quotient rounded up.
@@ -16,13 +17,13 @@ fn rounded_up(x: u64, d: u64) -> u64
     (x + (d - 1)) / d
 }
 
-// The haircut between month `a` with haircut `p` and month `b` with haircut `q`, rounded up.
-fn between(a: u16, p: u16, b: u16, q: u16, month: u64) -> u16
-    requires { (a < month) × (month < b) × (p ≤ q) }
-    ensures { result ≡ between_points a p b q month }
+// The haircut between two points, rounded up.
+fn between(from: Point, to: Point, month: u64) -> u16
+    requires { (from.month < month) × (month < to.month) × (from.haircut ≤ to.haircut) }
+    ensures { result ≡ between_points from.month from.haircut to.month to.haircut month }
 {
-    let rise = (q - p) as u64 * (month - a as u64);
-    p + rounded_up(rise, (b - a) as u64) as u16
+    let rise = (to.haircut - from.haircut) as u64 * (month - from.month as u64);
+    from.haircut + rounded_up(rise, (to.month - from.month) as u64) as u16
 }
 
 impl Curve {
@@ -30,11 +31,7 @@ impl Curve {
     fn reached(&self, month: u64) -> usize
         ensures { (1 ≤ result) × (result ≤ self.now.count) × ((held self.now).month (result - 1) ≤ month) × (result < self.now.count → month < (held self.now).month result) }
     {
-        let mut n = 1;
-        while n < self.count && self.months[n] as u64 <= month {
-            n += 1;
-        }
-        n
+        self.points().partition_point(|point| point.month as u64 <= month)
     }
 
     // The haircut at a month, `n` points being at or before it: the last of them has its own.
@@ -44,12 +41,11 @@ impl Curve {
         requires last { n ≡ self.now.count → month ≡ (held self.now).month (n - 1) }
         ensures { Haircut (held self.now) month result × (result ≤ 10000) }
     {
-        let a = self.months[n - 1];
-        let p = self.haircuts[n - 1];
-        if a as u64 == month {
-            return p;
+        let last = self.points[n - 1];
+        if last.month as u64 == month {
+            return last.haircut;
         }
-        between(a, p, self.months[n], self.haircuts[n], month)
+        between(last, self.points[n], month)
     }
 
     // A point has its own haircut; after the last point there is none.
@@ -59,7 +55,7 @@ impl Curve {
             (λ e. (e ≡ PastCurve) × Past (held self.now) month) }
     {
         let n = self.reached(month);
-        if n == self.count && month > self.months[n - 1] as u64 {
+        if n == self.count && month > self.points[n - 1].month as u64 {
             return Err(Cause::PastCurve);
         }
         Ok(self.within(n, month))

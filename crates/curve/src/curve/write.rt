@@ -20,27 +20,18 @@ fn put(buffer: &mut [u8], at: usize, v: u16)
     buffer[at + 1] = high;
 }
 
-// Writes the first `count` numbers of `xs` from `at` on.
-fn put_all(buffer: &mut [u8], at: usize, xs: &[u16; 16], count: usize)
-    requires { (at + 2 * count ≤ length buffer.old) × (count ≤ 16) × (length xs.now ≡ 16) }
-    ensures spelt { (j : ℕ) → j < count → Spelt buffer.new (at + 2 * j) (slice_index xs.now j) }
-    ensures kept { Kept buffer.old buffer.new at (at + 2 * count) }
-{
-    for j in 0..count {
-        put(buffer, at + 2 * j, xs[j]);
-    }
-}
-
 impl Curve {
     // Writes this curve as its page at the start of a buffer that has room for it.
     fn fill(&self, buffer: &mut [u8])
         requires { 1 + 4 * self.now.count ≤ length buffer.old }
         ensures { Written (held self.now) buffer.old buffer.new (1 + 4 * self.now.count) }
     {
-        let count = self.count;
-        buffer[0] = count as u8;
-        put_all(buffer, 1, &self.months, count);
-        put_all(buffer, 1 + 2 * count, &self.haircuts, count);
+        let points = self.points();
+        buffer[0] = points.len() as u8;
+        for (j, point) in points.iter().enumerate() {
+            put(buffer, 1 + 2 * j, point.month);
+            put(buffer, 1 + 2 * self.count + 2 * j, point.haircut);
+        }
     }
 
     // Writes this curve as its page and returns the length; the bytes after it stay.

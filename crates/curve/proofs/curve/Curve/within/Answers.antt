@@ -6,8 +6,8 @@ use Rattle.curve.proofs.Rising.{haircut_next, haircut_low, stretch}
 use Rattle.curve.proofs.Rounding.{between_le}
 use Rattle.curve.proofs.curve.Curve.within.Goals as goal
 
-pub returns-then-a-month : goal.returns-then-a-month
-returns-then-a-month c = (
+pub returns-then-last-month : goal.returns-then-last-month
+returns-then-last-month c = (
   at (c.args.n - 1) (omega arith) (omega arith),
   haircut_low (held c.args.self.now).haircut c.args.self.now.count (c.args.n - 1) c.args.self.now.falling (omega arith),
 )
@@ -18,7 +18,7 @@ inner n k m a l e x = elim (dec_lt n k) [ yes w ↦ w | no w ↦ absurd (x (sym 
 
 pub between-requires : goal.between-requires
 between-requires c =
-    let l = inner c.args.n c.args.self.now.count c.args.month _ c.requires.place.1 c.requires.last c.if-a-month.false in (
+    let l = inner c.args.n c.args.self.now.count c.args.month _ c.requires.place.1 c.requires.last c.if-last-month.false in (
       omega arith,
       c.requires.next l,
       haircut_next (held c.args.self.now).haircut c.args.self.now.count c.args.n c.args.self.now.falling (omega arith) l,
@@ -28,7 +28,7 @@ pub returns : goal.returns
 returns c =
     let n = c.args.n in
     let h = held c.args.self.now in
-    let l = inner n c.args.self.now.count c.args.month _ c.requires.place.1 c.requires.last c.if-a-month.false in
+    let l = inner n c.args.self.now.count c.args.month _ c.requires.place.1 c.requires.last c.if-last-month.false in
     let b = c.requires.next l in
     let next = haircut_next h.haircut c.args.self.now.count n c.args.self.now.falling (omega arith) l in
     let low = haircut_low h.haircut c.args.self.now.count n c.args.self.now.falling l in
