@@ -1,4 +1,4 @@
-ghost use Rattle.std.specs.Prelude.{◌≡◌, ◌≤◌, length, take};
+ghost use Rattle.std.specs.Prelude.{◌≡◌, ◌≤◌, length};
 ghost use Rattle.curve.specs.Points.{NoneBelow, month_breaks, haircut_breaks};
 ghost use Rattle.curve.specs.Listed.{listed};
 
@@ -28,11 +28,5 @@ impl Curve {
         ensures { result ≡ self.now.count }
     {
         self.count
-    }
-
-    fn points(&self) -> &[Point]
-        ensures { result.now ≡ take self.now.count self.now.points }
-    {
-        &self.points[..self.count]
     }
 }

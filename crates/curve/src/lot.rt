@@ -9,7 +9,7 @@ use crate::card::Card;
 use cause::Cause;
 
 // A lot as it is offered: any number may stand in a field.
-#[derive(Clone, Copy)]
+#[derive(Clone, Copy, PartialEq, Eq, Debug)]
 pub struct Terms {
     pub issuer: u64,
     pub class: u64,
@@ -19,7 +19,7 @@ pub struct Terms {
 }
 
 // A lot whose fields are in their ranges, with its collateral value.
-#[derive(Clone, Copy)]
+#[derive(Clone, Copy, PartialEq, Eq, Debug)]
 pub struct Lot {
     pub issuer: u8,
     pub class: u8,
@@ -35,11 +35,9 @@ impl Terms {
     {
         self.issuer <= 255
             && self.class <= 7
-            && self.rating >= 1
-            && self.rating <= 22
+            && (1..=22).contains(&self.rating)
             && self.months <= 1200
-            && self.market >= 1
-            && self.market <= 100_000_000_000
+            && (1..=100_000_000_000).contains(&self.market)
     }
 
     // The haircut of a lot with these terms.

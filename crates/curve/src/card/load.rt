@@ -26,10 +26,7 @@ fn curve_of(class: u64, page: &[u8]) -> Result<Curve, CardFault>
         (λ c. (class ≤ 7) × Accepted page.now (held c))
         (λ e. Unloaded page.now class e) }
 {
-    let mut curve = Curve::blank();
-    curve
-        .read(page)
-        .map_err(|fault| CardFault::Page(fault, class))?;
+    let curve = Curve::from_page(page).map_err(|fault| CardFault::Page(fault, class))?;
     if class > 7 {
         return Err(CardFault::Class(class));
     }
@@ -71,7 +68,6 @@ impl Card {
             (λ h. Haircut (nth_points self.now.curves class) month h × (h ≤ 10000))
             (λ e. (e ≡ PastCurve) × Past (nth_points self.now.curves class) month) }
     {
-        let curve = self.curves[class as usize];
-        curve.haircut(month)
+        self.curves[class as usize].haircut(month)
     }
 }

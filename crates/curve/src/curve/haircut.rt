@@ -10,20 +10,22 @@ use crate::curve::point::Point;
 use cause::Cause;
 
 // A quotient rounded up.
+#[tactic(auto, using(crate::proofs::Rounding::div_ceil_up))]
 fn rounded_up(x: u64, d: u64) -> u64
-    requires { (0 < d) × (x + d < 2 ^ 64) }
+    requires { 0 < d }
     ensures { result ≡ up x d }
 {
-    (x + (d - 1)) / d
+    x.div_ceil(d)
 }
 
 // The haircut between two points, rounded up.
+#[tactic(auto, using(crate::proofs::Rounding::rise_le))]
 fn between(from: Point, to: Point, month: u64) -> u16
     requires { (from.month < month) × (month < to.month) × (from.haircut ≤ to.haircut) }
     ensures { result ≡ between_points from.month from.haircut to.month to.haircut month }
 {
-    let rise = (to.haircut - from.haircut) as u64 * (month - from.month as u64);
-    from.haircut + rounded_up(rise, (to.month - from.month) as u64) as u16
+    let rise = u64::from(to.haircut - from.haircut) * (month - u64::from(from.month));
+    from.haircut + rounded_up(rise, u64::from(to.month - from.month)) as u16
 }
 
 impl Curve {
@@ -31,7 +33,8 @@ impl Curve {
     fn reached(&self, month: u64) -> usize
         ensures { (1 ≤ result) × (result ≤ self.now.count) × ((held self.now).month (result - 1) ≤ month) × (result < self.now.count → month < (held self.now).month result) }
     {
-        self.points().partition_point(|point| point.month as u64 <= month)
+        self.points()
+            .partition_point(|point| u64::from(point.month) <= month)
     }
 
     // The haircut at a month, `n` points being at or before it: the last of them has its own.
@@ -42,7 +45,7 @@ impl Curve {
         ensures { Haircut (held self.now) month result × (result ≤ 10000) }
     {
         let last = self.points[n - 1];
-        if last.month as u64 == month {
+        if u64::from(last.month) == month {
             return last.haircut;
         }
         between(last, self.points[n], month)
@@ -55,7 +58,7 @@ impl Curve {
             (λ e. (e ≡ PastCurve) × Past (held self.now) month) }
     {
         let n = self.reached(month);
-        if n == self.count && month > self.points[n - 1].month as u64 {
+        if n == self.count && month > u64::from(self.points[n - 1].month) {
             return Err(Cause::PastCurve);
         }
         Ok(self.within(n, month))

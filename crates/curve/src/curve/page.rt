@@ -19,23 +19,18 @@ pub struct PageFault {
     pub point: usize,
 }
 
+// A page whose bytes have not the shape of any page.
+const MISSHAPEN: PageFault = PageFault {
+    cause: Cause::PageShape,
+    point: 0,
+};
+
 impl From<Ended> for PageFault {
     ghost from_gives = { λ _ r. r ≡ record { cause = PageShape; point = 0 } };
 
-    fn from(_e: Ended) -> PageFault {
-        PageFault {
-            cause: Cause::PageShape,
-            point: 0,
-        }
+    fn from(_: Ended) -> PageFault {
+        MISSHAPEN
     }
-}
-
-// Whether a page of `size` bytes may have `count` points.
-fn fits(count: usize, size: usize) -> bool
-    requires { count < 256 }
-    ensures { result ≡ (nat_lt 0 count && (nat_le count 16 && size == 1 + 4 * count)) }
-{
-    count > 0 && count <= 16 && size == 1 + 4 * count
 }
 
 // The number of points, if the page has the length that goes with it.
@@ -44,13 +39,9 @@ fn counted(page: &[u8]) -> Result<usize, PageFault>
         (λ n. (n ≡ slice_index page.now 0) × (1 ≤ n) × (n ≤ 16) × (length page.now ≡ 1 + 4 * n))
         (λ e. Refused page.now e.cause e.point) }
 {
-    let count = Reader::new(page).byte()? as usize;
-    let fits = fits(count, page.len());
-    if !fits {
-        return Err(PageFault {
-            cause: Cause::PageShape,
-            point: 0,
-        });
+    let count = usize::from(Reader::new(page).byte()?);
+    if count == 0 || count > 16 || page.len() != 1 + 4 * count {
+        return Err(MISSHAPEN);
     }
     Ok(count)
 }
@@ -107,17 +98,6 @@ fn refuse_first<F: Fn(usize) -> bool>(count: usize, cause: Cause, breaks: F) -> 
     Ok(())
 }
 
-// The curve of a page.
-fn from_page(page: &[u8]) -> Result<Curve, PageFault>
-    ensures { MatchResult result (λ c. Accepted page.now (held c)) (λ e. Refused page.now e.cause e.point) }
-{
-    let count = counted(page)?;
-    let points = points_of(page, count)?;
-    refuse_first(count, Cause::PageMonth, |j| breaks_months(&points, j))?;
-    refuse_first(count, Cause::PageHaircut, |j| breaks_haircuts(&points, j))?;
-    Ok(Curve { count, points })
-}
-
 impl Curve {
     // Month 0 with haircut 10,000: nothing has a value under it but at month 0, and there none.
     pub fn blank() -> Curve
@@ -128,13 +108,24 @@ impl Curve {
         Curve { count: 1, points }
     }
 
+    // The curve of a page.
+    pub(crate) fn from_page(page: &[u8]) -> Result<Curve, PageFault>
+        ensures { MatchResult result (λ c. Accepted page.now (held c)) (λ e. Refused page.now e.cause e.point) }
+    {
+        let count = counted(page)?;
+        let points = points_of(page, count)?;
+        refuse_first(count, Cause::PageMonth, |j| breaks_months(&points, j))?;
+        refuse_first(count, Cause::PageHaircut, |j| breaks_haircuts(&points, j))?;
+        Ok(Curve { count, points })
+    }
+
     // Fills this curve from its page and returns the number of points. A refused page leaves it.
     pub fn read(&mut self, page: &[u8]) -> Result<usize, PageFault>
         ensures { MatchResult result
             (λ n. Accepted page.now (held self.new) × (n ≡ self.new.count))
             (λ e. Refused page.now e.cause e.point × (self.new ≡ self.old)) }
     {
-        let curve = from_page(page)?;
+        let curve = Curve::from_page(page)?;
         *self = curve;
         Ok(curve.count)
     }

@@ -3,7 +3,7 @@ use Rattle.std.proofs.lemmas.Result.{err_from_is_err_and}
 use Rattle.curve.specs.Points.{NoneBelow, month_breaks, haircut_breaks}
 use Rattle.curve.specs.Listed.{listed}
 use Rattle.curve.proofs.Shapes.{page_of, at_month, at_haircut}
-use Rattle.curve.proofs.curve.page.from_page.Goals as goal
+use Rattle.curve.proofs.curve.Curve.from_page.Goals as goal
 
 pub returns-in_err-refuse_first : goal.returns-in_err-refuse_first
 returns-in_err-refuse_first c =
