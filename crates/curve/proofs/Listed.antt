@@ -1,6 +1,6 @@
 -- The points of a curve as a list of their own, and how many of them stand at or before a month.
 
-use Rattle.std.proofs.Common.{◌≡◌, ℕ, ◌+◌, ◌-◌, ◌<◌, ◌≤◌, true, false, leb, leb-true, List, length, get_or, take, ◌∙◌, arith, get_or-take, ap}
+use Rattle.std.proofs.Common.{◌≡◌, ℕ, ◌-◌, ◌<◌, ◌≤◌, true, false, leb, leb-true, List, length, get_or, take, ◌∙◌, arith, get_or-take, ap}
 use Rattle.std.specs.List.Sorted.{IsNonDecreasingBy, IsPartitionPoint}
 use Rattle.std.proofs.lemmas.Bool.Decides.{nat_tests}
 use Rattle.std.proofs.lemmas.List.{get_or_default, length-take-le}
@@ -31,14 +31,16 @@ module _ (xs ps : List Point) (n : ℕ) (taken : xs ≡ take n ps) (room : n ≤
       let start : (point_at ps 0).month ≡ 0 = month_first (listed n ps).month n law.months law.some in
       let some : 1 ≤ r = positive r (λ e. later 0 (omega arith) law.some) start in
       (some, omega arith, before (r - 1) (omega arith) (omega arith), λ h. later r (omega arith) h) where
-    before : (j : ℕ) → j < r → j < n → (point_at ps j).month ≤ month
-    before j h k =
-        let e = rw (taken_at xs ps n j (point_at ps j) taken room k) at (p.0 j (point_at ps j) (omega arith) h) in
-        leb-true _ _ e
-    later : (j : ℕ) → r ≤ j → j < n → month < (point_at ps j).month
-    later j h k =
-        let size = taken_size xs ps n taken room in
-        let e = rw (taken_at xs ps n j (point_at ps j) taken room k) at (p.1 j (point_at ps j) h (omega arith)) in
-        grind (arith, nat_tests)
-    positive : (i : ℕ) → (i ≡ 0 → month < (point_at ps 0).month) → (point_at ps 0).month ≡ 0 → 1 ≤ i
-    positive i f s = grind arith
+        before : (j : ℕ) → j < r → j < n → (point_at ps j).month ≤ month
+        before j h k =
+            let e = rw (taken_at xs ps n j (point_at ps j) taken room k) at (p.0 j (point_at ps j) (omega arith) h) in
+            leb-true _ _ e
+
+        later : (j : ℕ) → r ≤ j → j < n → month < (point_at ps j).month
+        later j h k =
+            let size = taken_size xs ps n taken room in
+            let e = rw (taken_at xs ps n j (point_at ps j) taken room k) at (p.1 j (point_at ps j) h (omega arith)) in
+            grind (arith, nat_tests)
+
+        positive : (i : ℕ) → (i ≡ 0 → month < (point_at ps 0).month) → (point_at ps 0).month ≡ 0 → 1 ≤ i
+        positive i f s = grind arith

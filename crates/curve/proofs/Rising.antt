@@ -17,9 +17,6 @@ month_next m n j h l k = rising j (m j) (m (j - 1)) (ltb 1200 (m j)) (neither _ 
 pub month_first : (m : ℕ → ℕ) (n : ℕ) → NoneBelow n (month_breaks m) → 1 ≤ n → m 0 ≡ 0
 month_first m n h l = let e = h 0 (omega arith) in grind (arith, nat_tests)
 
-pub month_low : (m : ℕ → ℕ) (n j : ℕ) → NoneBelow n (month_breaks m) → j < n → m j ≤ 1200
-month_low m n j h k = let e = h j k in grind (arith, nat_tests)
-
 pub haircut_next : (h : ℕ → ℕ) (n j : ℕ) → NoneBelow n (haircut_breaks h) → 1 ≤ j → j < n → h (j - 1) ≤ h j
 haircut_next h n j b l k = let e = b j k in grind (arith, nat_tests)
 

@@ -1,7 +1,6 @@
 -- Bytes that are the page of some points, or of none.
 
-use Rattle.std.proofs.Common.{◌≡◌, ℕ, ◌+◌, ◌*◌, ◌<◌, ◌≤◌, false, ◌&&◌, eqb, ltb, leb, List, length, get_or, sym, arith}
-use Rattle.std.proofs.lemmas.Bool.Decides.{nat_tests}
+use Rattle.std.proofs.Common.{◌≡◌, ℕ, ◌+◌, ◌*◌, ◌<◌, ◌≤◌, List, length, get_or, sym}
 use Rattle.cause.specs.declared.Cause.{Cause}
 use Rattle.curve.specs.Points.{Points, NoneBelow, month_breaks, haircut_breaks}
 use Rattle.cause.specs.declared.Cause.TheVariants.{PageShape, PageMonth, PageHaircut}
@@ -13,9 +12,6 @@ use Rattle.curve.specs.Page.Refused.{shape, months, haircuts}
 -- it is enough that the first byte and the length do not fit each other
 pub misshapen : (bs : List ℕ) → ((n : ℕ) → 1 ≤ n → n ≤ 16 → get_or bs 0 0 ≡ n → length bs ≡ 1 + 4 * n → ⊥) → Refused bs PageShape 0
 misshapen bs h = shape (λ c p. h c.count p.some p.few p.number p.size)
-
-pub unfit : (n m size : ℕ) → 1 ≤ n → n ≤ 16 → m ≡ n → size ≡ 1 + 4 * n → (ltb 0 m && (leb m 16 && eqb size (1 + 4 * m))) ≡ false → ⊥
-unfit n m size l h e s w = grind (arith, nat_tests)
 
 -- a number of points, the length that goes with it, and the points one by one
 pub page_of : (bs : List ℕ) (n : ℕ) (ps : List Point) → n ≡ get_or bs 0 0 → 1 ≤ n → n ≤ 16 → length bs ≡ 1 + 4 * n

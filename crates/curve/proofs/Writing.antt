@@ -1,6 +1,6 @@
 -- A buffer that a page is written into, two numbers at a time.
 
-use Rattle.std.proofs.Common.{◌≡◌, ℕ, ◌+◌, ◌*◌, ◌<◌, ◌≤◌, ◌≢◌, List, length, get_or, take, drop, set, sym, ◌∙◌, arith, length-set, get_or-drop, get_or-set_other, get_or-take, get_or-set_same, ext_get_or, below_more}
+use Rattle.std.proofs.Common.{◌≡◌, ℕ, ◌+◌, ◌*◌, ◌<◌, ◌≤◌, List, length, get_or, take, drop, sym, ◌∙◌, arith, get_or-drop, get_or-take, ext_get_or, below_more}
 use Rattle.std.proofs.lemmas.List.{length-take-le, length-drop}
 use Rattle.curve.specs.Points.{Points}
 use Rattle.curve.specs.Page.{Spelt, Written}
@@ -13,15 +13,6 @@ pub record Begun (c : Points) (old new : List ℕ) (j : ℕ) : Type 0 where
   pub months : (k : ℕ) → k < j → Spelt new (1 + 2 * k) (c.month k)
   pub haircuts : (k : ℕ) → k < j → Spelt new (1 + 2 * c.count + 2 * k) (c.haircut k)
   pub after : (k : ℕ) → 1 + 4 * c.count ≤ k → get_or new k 0 ≡ get_or old k 0
-
-pub begun : (c : Points) (old : List ℕ) → 0 < length old → Begun c old (set old 0 c.count) 0
-begun c old room = record {
-  size = length-set old 0 c.count;
-  number = get_or-set_same old 0 c.count 0 room;
-  months = λ k l. absurd (omega arith);
-  haircuts = λ k l. absurd (omega arith);
-  after = λ k l. let other : k ≢ 0 = omega arith in get_or-set_other old 0 k c.count 0 other;
-}
 
 -- a number outside the bytes that are written stays
 spelt_kept : (old new : List ℕ) (from to i v : ℕ) → Kept old new from to → i + 1 < from → Spelt old i v → Spelt new i v

@@ -1,13 +1,12 @@
 -- To believe: the curve of each class, and why loading a class is refused.
 
-use Rattle.std.specs.Prelude.{◌≡◌, ℕ, zero, suc, ◌<◌, ◌≤◌, List, [], ◌∷◌, Ok, Err, Result, ◌≢◌}
+use Rattle.std.specs.Prelude.{◌≡◌, ℕ, zero, suc, ◌<◌, ◌≤◌, List, [], ◌∷◌, ◌≢◌}
 use Rattle.cause.specs.declared.Cause.{Cause}
 use Rattle.cause.specs.declared.Cause.TheVariants.{FieldOutside}
 use Rattle.curve.specs.Points.{Points, blank}
 use Rattle.curve.specs.Page.{Accepted, Refused}
 use Rattle.curve.specs.Held.{held}
 use Rattle.curve.specs.declared.curve.Curve.{Curve}
-use Rattle.curve.specs.declared.curve.page.PageFault.{PageFault}
 use Rattle.curve.specs.declared.card.CardFault.{CardFault}
 use Rattle.curve.specs.declared.card.CardFault.TheVariants.{Page, Class}
 

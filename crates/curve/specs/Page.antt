@@ -1,6 +1,6 @@
 -- To believe: which bytes are the page of a curve, and why a page is refused.
 
-use Rattle.std.specs.Prelude.{◌≡◌, ℕ, ◌+◌, ◌*◌, ◌/◌, ◌%◌, ◌<◌, ◌≤◌, Bool, true, List, length, take, drop, slice_index, slice_index_or}
+use Rattle.std.specs.Prelude.{◌≡◌, ℕ, ◌+◌, ◌*◌, ◌/◌, ◌%◌, ◌<◌, ◌≤◌, Bool, true, List, length, take, drop, slice_index}
 use Rattle.cause.specs.declared.Cause.{Cause}
 use Rattle.cause.specs.declared.Cause.TheVariants.{PageShape, PageMonth, PageHaircut}
 use Rattle.curve.specs.Points.{Points, Lawful, NoneBelow, month_breaks, haircut_breaks}

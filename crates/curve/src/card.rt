@@ -1,5 +1,3 @@
-ghost use Rattle.std.specs.Prelude.{◌≡◌, length};
-
 pub mod load;
 
 use crate::curve::Curve;
@@ -9,7 +7,6 @@ use crate::curve::page::PageFault;
 #[derive(Clone, Copy, PartialEq, Eq, Debug)]
 pub struct Card {
     curves: [Curve; 8],
-    ghost full: { length curves ≡ 8 },
 }
 
 // Why a class was not loaded: the fault of its page with the class, or a class over 7.

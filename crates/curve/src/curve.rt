@@ -16,7 +16,6 @@ pub struct Curve {
     // beside the array, and no vector with a length of its own: a curve is Copy, and those are not
     count: usize,
     points: [Point; 16],
-    ghost full: { length points ≡ 16 },
     ghost some: { (1 ≤ count) × (count ≤ 16) },
     ghost rising: { NoneBelow count (month_breaks (listed count points).month) },
     ghost falling: { NoneBelow count (haircut_breaks (listed count points).haircut) },

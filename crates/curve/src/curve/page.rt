@@ -50,13 +50,13 @@ fn counted(page: &[u8]) -> Result<usize, PageFault>
 fn points_of(page: &[u8], count: usize) -> Result<[Point; 16], Ended>
     requires { (count ≤ 16) × (length page.now ≡ 1 + 4 * count) }
     ensures { MatchResult result
-        (λ ps. (length ps ≡ 16) × ((j : ℕ) → j < count → Spelt page.now (1 + 2 * j) (point_at ps j).month × Spelt page.now (1 + 2 * count + 2 * j) (point_at ps j).haircut))
+        (λ ps. ((j : ℕ) → j < count → Spelt page.now (1 + 2 * j) (point_at ps j).month × Spelt page.now (1 + 2 * count + 2 * j) (point_at ps j).haircut))
         (λ _. ⊥) }
 {
     let mut points = [Point::default(); 16];
     let mut months = Reader::starting(page, 1);
     let mut haircuts = Reader::starting(page, 1 + 2 * count);
-    for point in points[..count].iter_mut() {
+    for point in &mut points[..count] {
         *point = Point {
             month: months.word()?,
             haircut: haircuts.word()?,
@@ -84,7 +84,11 @@ fn breaks_haircuts(points: &[Point], j: usize) -> bool
 }
 
 // Refuses the first of `count` points that breaks a rule, for the cause of that rule.
-fn refuse_first<F: Fn(usize) -> bool>(count: usize, cause: Cause, breaks: F) -> Result<(), PageFault>
+fn refuse_first<F: Fn(usize) -> bool>(
+    count: usize,
+    cause: Cause,
+    breaks: F,
+) -> Result<(), PageFault>
     requires { (j : ℕ) → j < count → F.pre breaks j }
     ensures { MatchResult result
         (λ _. (j : ℕ) → j < count → F.post breaks j false)

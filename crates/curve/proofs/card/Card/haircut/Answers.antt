@@ -4,4 +4,4 @@ use Rattle.curve.proofs.card.Card.haircut.Goals as goal
 
 pub returns : goal.returns
 returns c =
-    rw (nth_points_read c.args.self.now.curves c.args.class c.index-self-class.result (omega (arith, c.args.self.now.full))) c.haircut.ensures
+    rw (nth_points_read c.args.self.now.curves c.args.class c.index-self-class.result (omega arith)) c.haircut.ensures

@@ -9,5 +9,5 @@ invariant-loop-point l = record {
   month_bytes : l.months.bytes.now ≡ l.page;
   month_at : l.months.at ≡ 1 + 2 * l.point-index;
   haircut_bytes : l.haircuts.bytes.now ≡ l.page;
-  haircut_at : l.haircuts.at ≡ 1 + 2 * l.count + 2 * l.point-index
+  haircut_at : l.haircuts.at ≡ 1 + 2 * l.count + 2 * l.point-index;
 }
