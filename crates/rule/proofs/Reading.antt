@@ -7,10 +7,11 @@
 -- Passing. Else the text has passed up to i + 1. At the end the machine rests with no bracket open exactly if the
 -- text is a rule, and what is written then are the steps of its tree.
 
-use Rattle.std.proofs.Common.{◌≡◌, ℕ, ◌+◌, ◌-◌, ◌*◌, ◌<◌, ◌≤◌, Bool, true, false, ◌&&◌, eqb, ◌⊎◌, List, [], ◌∷◌, ◌++◌, length, get_or, take, Ok, Err, Result, sym, refl, ap, ◌∙◌, subst, inl, inr, arith, length-take-le, take_all}
+use Rattle.std.proofs.Common.{◌≡◌, ℕ, ◌+◌, ◌-◌, ◌*◌, ◌<◌, ◌≤◌, Bool, true, false, cond, ◌&&◌, eqb, ◌⊎◌, List, [], ◌∷◌, ◌++◌, length, get_or, take, Ok, Err, Result, sym, refl, ap, ◌∙◌, subst, inl, inr, arith, length-take-le, take_all}
 use Rattle.std.proofs.lemmas.List.{take_more, nil_from_length}
 use Rattle.std.proofs.lemmas.Bool.{both_ways, ltb-true, ltb-false, lt-ltb, eqb-true, eqb-false, eq-eqb, and_parts, and_from, cond_both}
 use Rattle.std.proofs.lemmas.Bool.Decides.{nat_tests}
+use Rattle.cause.specs.declared.Cause.{Cause}
 use Rattle.cause.specs.Numbers.{number as listed}
 use Rattle.grammar.specs.Grammar.{digit, longest, largest, deepest, most_steps, count, step, IsRule, Least}
 use Rattle.rule.specs.declared.fault.TextFault.{TextFault}
@@ -24,7 +25,7 @@ use Rattle.rule.specs.declared.text.Level.{Level}
 use Rattle.rule.specs.declared.text.Mode.{Mode}
 use Rattle.rule.specs.declared.text.Mode.TheVariants.{Want, Named, Signed, Counting, Done}
 use Rattle.rule.specs.Marks.{mark_of, steps, opens}
-use Rattle.rule.specs.Refusing.{expects, is_follow, large, verdict, Allowed, first_digit}
+use Rattle.rule.specs.Refusing.{expects, is_follow, large, fault, verdict, Allowed, first_digit}
 use Rattle.rule.specs.Machine.{State, rested, bit, next, scan, start, settle, weight, ended}
 use Rattle.rule.specs.Machine.State.{dead, at}
 use Rattle.rule.specs.Stack.{acts, top}
@@ -342,6 +343,22 @@ conclude Done l ls c v j js d e a p q =
     let y : js ≡ ls = cc in
     record { waiting = j; said = d; is = sym p ∙ ap (λ m. at m j js d) x ∙ ap (λ m. at Done j m d) y; steps = sym q }
 
+-- a fault that is returned is the least
+abbrev pub Right : List ℕ → Result (Unit {0}) TextFault → Type 0
+Right t (Ok u) = Unit {0}
+Right t (Err e) = Least t (listed e.cause) e.place
+
+pub refused : (t : List ℕ) (w : Bool) (c : Cause) (i : ℕ) → (w ≡ true → Least t (listed c) i) → Right t (cond w (fault c i) (Ok tt))
+refused t true c i h = h refl
+refused t false c i h = tt
+
+never : {e : TextFault} → ◌≡◌ {A = Result (Unit {0}) TextFault} (Err e) (Ok tt) → ⊥
+never q = let z : ◌≡◌ {A = ℕ} 0 1 = cc in omega arith
+
+pub let_on : (w : Bool) (c : Cause) (i : ℕ) → Ok tt ≡ cond w (fault c i) (Ok tt) → w ≡ false
+let_on true c i e = absurd (never (sym e))
+let_on false c i e = refl
+
 -- a mark with nothing against it
 pub allowed_if : (w : Mode) (m : Mark) (d n i k : ℕ) → verdict w m d n i k ≡ Ok tt → Allowed w m d n
 allowed_if w m d n i k =
@@ -352,6 +369,3 @@ allowed_if w m d n i k =
     (λ o. cond_both (steps m && eqb n most_steps) _ _ P (λ s q. absurd (never q))
     (λ s q. record { expected = e; small = g; shallow = o; few = s }))))
     (λ e q. absurd (never q))
-  where
-    never : {e : TextFault} → ◌≡◌ {A = Result (Unit {0}) TextFault} (Err e) (Ok tt) → ⊥
-    never q = let z : ◌≡◌ {A = ℕ} 0 1 = cc in omega arith

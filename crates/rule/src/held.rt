@@ -1,16 +1,20 @@
 // A rule that a caller holds: the steps that its text was read as.
 
-ghost use Rattle.std.specs.Prelude.{◌≡◌, ◌≤◌, length};
+ghost use Rattle.std.specs.Prelude.{◌≤◌};
+ghost use Rattle.grammar.specs.Grammar.{most_steps};
 
 use crate::steps::Step;
 
 pub mod asks;
 pub mod code;
 
-#[derive(Clone, Copy)]
+pub const MOST_STEPS: usize = 64;
+
+// Rules are copied by those who hold them, and the vectors of arrayvec are not Copy, so a length stands
+// beside the steps.
+#[derive(Clone, Copy, PartialEq, Eq, Debug)]
 pub struct Rule {
-    steps: [Step; 64],
+    steps: [Step; MOST_STEPS],
     len: usize,
-    ghost full: { length steps ≡ 64 },
-    ghost bound: { len ≤ 64 },
+    ghost bound: { len ≤ most_steps },
 }

@@ -4,8 +4,8 @@ ghost use Rattle.rule.specs.Says.{says, Loaded};
 ghost use Rattle.rule.specs.Views.{code};
 
 use crate::fault::TextFault;
-use crate::held::Rule;
-use crate::steps::{Step, act, top};
+use crate::held::{MOST_STEPS, Rule};
+use crate::steps::{Answers, Step};
 use crate::text::reader::read;
 use grammar::Description;
 
@@ -16,7 +16,7 @@ impl Rule {
         ensures steps { code result ≡ [] }
     {
         Rule {
-            steps: [Step::Negate; 64],
+            steps: [Step::Negate; MOST_STEPS],
             len: 0,
         }
     }
@@ -33,11 +33,10 @@ impl Rule {
     pub fn ask(&self, lot: Description) -> bool
         ensures { result ≡ says self.now lot }
     {
-        let mut stack: u64 = 0;
-        for i in 0..self.len {
-            let step = self.steps[i];
-            stack = act(step, lot, stack);
+        let mut answers = Answers::none();
+        for step in &self.steps[..self.len] {
+            step.run(lot, &mut answers);
         }
-        top(stack)
+        answers.top()
     }
 }

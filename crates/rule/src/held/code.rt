@@ -1,6 +1,7 @@
 // Writing a rule's steps.
 
 ghost use Rattle.std.specs.Prelude.{◌≡◌, ◌+◌, ◌<◌, ◌≤◌, [], ◌∷◌, ◌++◌, length};
+ghost use Rattle.grammar.specs.Grammar.{most_steps};
 ghost use Rattle.rule.specs.Machine.{bit, step_if, finished, ended as ended_by};
 ghost use Rattle.rule.specs.Views.{code as written};
 
@@ -10,7 +11,7 @@ use crate::text::Level;
 
 impl Rule {
     pub(crate) fn push(&mut self, step: Step)
-        requires { length (written self.old) < 64 }
+        requires { length (written self.old) < most_steps }
         ensures { written self.new ≡ written self.old ++ step ∷ [] }
     {
         self.steps[self.len] = step;
@@ -18,7 +19,7 @@ impl Rule {
     }
 
     fn push_if(&mut self, wanted: bool, step: Step)
-        requires { length (written self.old) + bit wanted ≤ 64 }
+        requires { length (written self.old) + bit wanted ≤ most_steps }
         ensures { written self.new ≡ written self.old ++ step_if wanted step }
     {
         if wanted {
@@ -28,7 +29,7 @@ impl Rule {
 
     // What waited for a factor is written after it.
     pub(crate) fn finish(&mut self, level: Level)
-        requires { length (written self.old) + (bit level.negated + bit level.both) ≤ 64 }
+        requires { length (written self.old) + (bit level.negated + bit level.both) ≤ most_steps }
         ensures { written self.new ≡ finished level (written self.old) }
     {
         self.push_if(level.negated, Step::Negate);
@@ -37,7 +38,7 @@ impl Rule {
 
     // What waited for a term is written after it.
     pub(crate) fn end(&mut self, level: Level)
-        requires { length (written self.old) + bit level.either ≤ 64 }
+        requires { length (written self.old) + bit level.either ≤ most_steps }
         ensures { written self.new ≡ ended_by level (written self.old) }
     {
         self.push_if(level.either, Step::Either);
