@@ -51,33 +51,12 @@ follow_lives l [] c Close = refl
 follow_lives l (j ∷ ls) c Close = lt-ltb 0 (length (j ∷ ls)) (omega arith)
 
 expects_lives : (w : Mode) (l : Level) (ls : List Level) (c : List Step) (m : Mark) → expects w m (length ls) ≡ lives (next (at w l ls c) m)
-expects_lives Want l ls c (Leads (Letter f)) = refl
-expects_lives Want l ls c (Leads Not) = refl
-expects_lives Want l ls c (Leads Open) = refl
-expects_lives Want l ls c (Compare s) = refl
-expects_lives Want l ls c (Digit k) = refl
-expects_lives Want l ls c (Follows m) = refl
-expects_lives Want l ls c Other = refl
-expects_lives (Named f) l ls c (Leads h) = refl
-expects_lives (Named f) l ls c (Compare s) = refl
-expects_lives (Named f) l ls c (Digit k) = refl
-expects_lives (Named f) l ls c (Follows m) = refl
-expects_lives (Named f) l ls c Other = refl
-expects_lives (Signed f s) l ls c (Leads h) = refl
-expects_lives (Signed f s) l ls c (Compare r) = refl
 expects_lives (Signed f s) l ls c (Digit k) = cond_both (eqb k 0) _ _ (λ st. true ≡ lives st) (λ z. refl) (λ z. refl)
-expects_lives (Signed f s) l ls c (Follows m) = refl
-expects_lives (Signed f s) l ls c Other = refl
-expects_lives (Counting f s v) l ls c (Leads h) = refl
-expects_lives (Counting f s v) l ls c (Compare r) = refl
-expects_lives (Counting f s v) l ls c (Digit k) = refl
 expects_lives (Counting f s v) l ls c (Follows m) = follow_lives (rested l) ls _ m
-expects_lives (Counting f s v) l ls c Other = refl
-expects_lives Done l ls c (Leads h) = refl
-expects_lives Done l ls c (Compare r) = refl
-expects_lives Done l ls c (Digit k) = refl
 expects_lives Done l ls c (Follows m) = follow_lives l ls c m
-expects_lives Done l ls c Other = refl
+expects_lives Want l ls c (Leads (Letter f)) = refl
+expects_lives (Named f) l ls c (Compare s) = refl
+expects_lives _ l ls c _ = refl
 
 dead_lives : (st : State) → lives st ≡ false → st ≡ dead
 dead_lives dead e = refl
@@ -88,18 +67,11 @@ lives_alive st e d = both_ways (lives st) (ap lives d) e
 
 -- after a step or a bracket no number is being read
 move_quiet : {st nt : State} {m : Mark} → Moves st m nt → (steps m ≡ true) ⊎ (opens m ≡ true) → counting nt ≡ false
-move_quiet names h = refl
-move_quiet negates h = refl
-move_quiet enters h = refl
-move_quiet signs h = refl
-move_quiet (zeroes e) h = refl
 move_quiet (begins e) (inl h) = absurd (both_ways false refl h)
 move_quiet (begins e) (inr h) = absurd (both_ways false refl h)
 move_quiet counts (inl h) = absurd (both_ways false refl h)
 move_quiet counts (inr h) = absurd (both_ways false refl h)
-move_quiet (ands r) h = refl
-move_quiet (ors r) h = refl
-move_quiet (shuts r) h = refl
+move_quiet _ h = refl
 
 next_quiet : (st : State) (m : Mark) → (steps m ≡ true) ⊎ (opens m ≡ true) → counting (next st m) ≡ false
 next_quiet st m h = elim (moves st m) [ inl v ↦ move_quiet v h | inr e ↦ ap counting e ]
@@ -113,16 +85,9 @@ low_digit : (b k : ℕ) → digit b ≡ true → k ≡ b - 48 → k < 10
 low_digit b k d e = grind (arith, nat_tests)
 
 move_small : {st nt : State} {m : Mark} (b : ℕ) → Moves st m nt → ByteOf m b → grows st m ≡ false → Big nt → ⊥
-move_small b names e g h = h
-move_small b negates e g h = h
-move_small b enters e g h = h
-move_small b signs e g h = h
-move_small b (zeroes z) e g h = h
 move_small b (begins {f} {s} {k} {l} {ls} {c} n) e g h = let y = low_digit b k e.0 e.1 in omega arith
 move_small b (counts {f} {s} {v} {k} {l} {ls} {c}) e g h = let y = ltb-false largest (10 * v + k) g in omega arith
-move_small b (ands r) e g h = h
-move_small b (ors r) e g h = h
-move_small b (shuts r) e g h = h
+move_small b _ e g h = h
 
 next_small : (st : State) (b : ℕ) → grows st (mark_of b) ≡ false → Big (next st (mark_of b)) → ⊥
 next_small st b g h = elim (moves st (mark_of b)) [ inl v ↦ move_small b v (byte_of b) g h | inr e ↦ subst Big e h ]
@@ -130,15 +95,6 @@ next_small st b g h = elim (moves st (mark_of b)) [ inl v ↦ move_small b v (by
 count-++ : (p : ℕ → Bool) (a : List ℕ) (b : ℕ) → count p (a ++ b ∷ []) ≡ count p a + bit (p b)
 count-++ p [] b = omega arith
 count-++ p (x ∷ a) b = omega (arith, count-++ p a b)
-
-opens_only : (m : Mark) → opens m ≡ true → m ≡ Leads Open
-opens_only (Leads (Letter f)) e = absurd (both_ways false refl e)
-opens_only (Leads Not) e = absurd (both_ways false refl e)
-opens_only (Leads Open) e = refl
-opens_only (Compare s) e = absurd (both_ways false refl e)
-opens_only (Digit k) e = absurd (both_ways false refl e)
-opens_only (Follows m) e = absurd (both_ways false refl e)
-opens_only Other e = absurd (both_ways false refl e)
 
 -- one more of a kind that may not pass its limit
 pub within : (x : Bool) (n m : ℕ) → n ≤ m → (x && eqb n m) ≡ false → n + bit x ≤ m
@@ -217,16 +173,9 @@ module _ (t : List ℕ) (w : Mode) (l : Level) (ls : List Level) (c : List Step)
     bad_number e g = go w m g onto read_on
       where
         go : (v : Mode) (x : Mark) → large v x ≡ true → scan start (take (i + 1) t) ≡ next (at v l ls c) x → Read (next (at v l ls c) x) (take (i + 1) t) (first_digit x i k) → Least t 7 k
-        go Want x g s p = absurd (both_ways false refl g)
-        go (Named f) x g s p = absurd (both_ways false refl g)
-        go (Signed f y) x g s p = absurd (both_ways false refl g)
-        go (Counting f y v) (Leads z) g s p = absurd (both_ways false refl g)
-        go (Counting f y v) (Compare z) g s p = absurd (both_ways false refl g)
         go (Counting f y v) (Digit d) g s p =
             subst (Least t 7) (sym p.6) (least_number t i p.0 f y p.1 p.2 p.3 r.passed h (alive_on e) p.4 (omega (arith, p.5, ltb-true largest (10 * v + d) g)))
-        go (Counting f y v) (Follows z) g s p = absurd (both_ways false refl g)
-        go (Counting f y v) Other g s p = absurd (both_ways false refl g)
-        go Done x g s p = absurd (both_ways false refl g)
+        go _ _ g s p = absurd (both_ways false refl g)
 
     bad_bracket : expects w m (length ls) ≡ true → (opens m && eqb (length ls) deepest) ≡ true → Least t 8 i
     bad_bracket e g =
@@ -290,18 +239,13 @@ module _ (t : List ℕ) (w : Mode) (l : Level) (ls : List Level) (c : List Step)
       both_ways _ a (and_from _ _ (go w x.waiting x.said y) (eq-eqb _ 0 (depth_none w (ap depth y)))))
     where
       go : (v : Mode) (o : Level) (s : List Step) → settle (at v l ls c) ≡ at Done o [] s → ends v ≡ true
-      go Want o s q = absurd (let z : ◌≡◌ {A = ℕ} 0 1 = cc in omega arith)
-      go (Named f) o s q = absurd (let z : ◌≡◌ {A = ℕ} 0 1 = cc in omega arith)
-      go (Signed f x) o s q = absurd (let z : ◌≡◌ {A = ℕ} 0 1 = cc in omega arith)
       go (Counting f x v) o s q = refl
       go Done o s q = refl
+      go _ o s q = absurd (let z : ◌≡◌ {A = ℕ} 0 1 = cc in omega arith)
 
       depth_none : (v : Mode) → depth (settle (at v l ls c)) ≡ 0 → length ls ≡ 0
-      depth_none Want q = q
-      depth_none (Named f) q = q
-      depth_none (Signed f x) q = q
       depth_none (Counting f x v) q = q
-      depth_none Done q = q
+      depth_none _ q = q
 
   -- the steps at the end answer what the text means
   pub granted : (d : List Step) → length ls ≡ 0 → Concluded (at w l ls c) ls d → Accepted t (λ x. top (acts x d 0))
@@ -319,29 +263,6 @@ module _ (t : List ℕ) (w : Mode) (l : Level) (ls : List Level) (c : List Step)
               sym (answers s x) ∙ ap (λ y. top (acts x y 0)) y;
         };
       }
-
--- where a text may end, the last test and what waited for the last term complete the steps
-pub settle_weight : (st : State) → weight (settle st) ≤ weight st
-settle_weight dead = omega arith
-settle_weight (at Want l ls c) = omega arith
-settle_weight (at (Named f) l ls c) = omega arith
-settle_weight (at (Signed f s) l ls c) = omega arith
-settle_weight (at (Counting f s v) l ls c) = omega (arith, rests_weight (counted {f = f} {s = s} {v = v} {l = l} {ls = ls} {c = c}))
-settle_weight (at Done l ls c) = omega arith
-
-pub conclude : (w : Mode) (l : Level) (ls : List Level) (c : List Step) (v : Mode) (j : Level) (js : List Level) (d e : List Step) →
-    ends w ≡ true → at v j js d ≡ settle (at w l ls c) → e ≡ ended j d → Concluded (at w l ls c) ls e
-conclude Want l ls c v j js d e a p q = absurd (both_ways false refl a)
-conclude (Named f) l ls c v j js d e a p q = absurd (both_ways false refl a)
-conclude (Signed f s) l ls c v j js d e a p q = absurd (both_ways false refl a)
-conclude (Counting f s k) l ls c v j js d e a p q =
-    let x : v ≡ Done = cc in
-    let y : js ≡ ls = cc in
-    record { waiting = j; said = d; is = sym p ∙ ap (λ m. at m j js d) x ∙ ap (λ m. at Done j m d) y; steps = sym q }
-conclude Done l ls c v j js d e a p q =
-    let x : v ≡ Done = cc in
-    let y : js ≡ ls = cc in
-    record { waiting = j; said = d; is = sym p ∙ ap (λ m. at m j js d) x ∙ ap (λ m. at Done j m d) y; steps = sym q }
 
 -- a fault that is returned is the least
 abbrev pub Right : List ℕ → Result (Unit {0}) TextFault → Type 0
