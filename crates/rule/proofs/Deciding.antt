@@ -11,7 +11,7 @@ use Rattle.rule.specs.declared.steps.Step.{Step}
 use Rattle.rule.specs.declared.steps.Step.TheVariants.{Test}
 use Rattle.rule.specs.declared.text.Level.{Level}
 use Rattle.rule.specs.declared.text.Mode.{Mode}
-use Rattle.rule.specs.declared.text.Mode.TheVariants.{Want, Named, Signed, Counting, Done}
+use Rattle.rule.specs.declared.text.Mode.TheVariants.{Want, Counting, Done}
 use Rattle.rule.specs.Marks.{mark_of, steps}
 use Rattle.rule.specs.Machine.{rested, finished, bit}
 use Rattle.rule.specs.Machine.State.{at}

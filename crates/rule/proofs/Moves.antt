@@ -10,7 +10,7 @@ use Rattle.rule.specs.declared.text.Lead.TheVariants.{Letter, Not, Open}
 use Rattle.rule.specs.declared.text.Follow.{Follow}
 use Rattle.rule.specs.declared.text.Follow.TheVariants.{And, Or, Close}
 use Rattle.rule.specs.declared.text.Mark.{Mark}
-use Rattle.rule.specs.declared.text.Mark.TheVariants.{Lead as Leads, Compare, Digit, Follow as Follows, Other}
+use Rattle.rule.specs.declared.text.Mark.TheVariants.{Lead as Leads, Compare, Digit, Follow as Follows}
 use Rattle.rule.specs.declared.steps.Step.{Step}
 use Rattle.rule.specs.declared.steps.Step.TheVariants.{Test}
 use Rattle.rule.specs.declared.text.Level.{Level}

@@ -20,7 +20,7 @@ use Rattle.rule.specs.declared.text.Lead.TheVariants.{Letter}
 use Rattle.rule.specs.declared.text.Mark.TheVariants.{Lead as Leads, Compare}
 use Rattle.rule.specs.declared.steps.Step.{Step}
 use Rattle.rule.specs.declared.text.Level.{Level}
-use Rattle.rule.specs.declared.text.Mode.TheVariants.{Want, Named, Signed, Counting, Done}
+use Rattle.rule.specs.declared.text.Mode.TheVariants.{Want, Named, Signed, Counting}
 use Rattle.rule.specs.Machine.{State, next, scan, start}
 use Rattle.rule.specs.Machine.State.{dead, at}
 use Rattle.rule.proofs.Bytes.{mark_digit}

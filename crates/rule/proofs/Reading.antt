@@ -15,26 +15,25 @@ use Rattle.cause.specs.declared.Cause.{Cause}
 use Rattle.cause.specs.Numbers.{number as listed}
 use Rattle.grammar.specs.Grammar.{digit, longest, largest, deepest, most_steps, count, step, IsRule, Least}
 use Rattle.rule.specs.declared.fault.TextFault.{TextFault}
-use Rattle.rule.specs.declared.text.Lead.TheVariants.{Letter, Not, Open}
+use Rattle.rule.specs.declared.text.Lead.TheVariants.{Letter}
 use Rattle.rule.specs.declared.text.Follow.{Follow}
 use Rattle.rule.specs.declared.text.Follow.TheVariants.{And, Or, Close}
 use Rattle.rule.specs.declared.text.Mark.{Mark}
-use Rattle.rule.specs.declared.text.Mark.TheVariants.{Lead as Leads, Compare, Digit, Follow as Follows, Other}
+use Rattle.rule.specs.declared.text.Mark.TheVariants.{Lead as Leads, Compare, Digit, Follow as Follows}
 use Rattle.rule.specs.declared.steps.Step.{Step}
 use Rattle.rule.specs.declared.text.Level.{Level}
 use Rattle.rule.specs.declared.text.Mode.{Mode}
 use Rattle.rule.specs.declared.text.Mode.TheVariants.{Want, Named, Signed, Counting, Done}
 use Rattle.rule.specs.Marks.{mark_of, steps, opens}
 use Rattle.rule.specs.Refusing.{expects, is_follow, large, fault, verdict, Allowed, first_digit}
-use Rattle.rule.specs.Machine.{State, rested, bit, next, scan, start, settle, weight, ended}
+use Rattle.rule.specs.Machine.{State, rested, bit, next, scan, start, settle, weight}
 use Rattle.rule.specs.Machine.State.{dead, at}
 use Rattle.rule.specs.Stack.{acts, top}
 use Rattle.rule.specs.Reads.{ends, Concluded}
 use Rattle.rule.specs.Says.{Accepted}
 use Rattle.rule.proofs.Bytes.{ByteOf, byte_of, step_same, open_same}
-use Rattle.rule.proofs.Moves.{rests_weight, Moves, moves, depth, move_depth, scan-++, scan_weight, scan_depth}
-use Rattle.rule.proofs.Moves.Rests.{counted}
-use Rattle.rule.proofs.Moves.Moves.{names, negates, enters, signs, zeroes, begins, counts, ands, ors, shuts}
+use Rattle.rule.proofs.Moves.{Moves, moves, depth, move_depth, scan-++, scan_weight, scan_depth}
+use Rattle.rule.proofs.Moves.Moves.{begins, counts}
 use Rattle.rule.proofs.Trees.{Whole, rule_whole, whole_same, post, answers}
 use Rattle.rule.proofs.Viable.{Read, read_more, read_none, whole_rule}
 use Rattle.rule.proofs.Passing.{counting, Big, Alive, Shallow, Few, Passed, passed_none, passed_more, least_byte, least_bracket, least_step, least_number, least_end, no_fault}

@@ -22,7 +22,7 @@ use Rattle.rule.specs.declared.text.Mark.TheVariants.{Lead as Leads, Compare, Fo
 use Rattle.rule.specs.declared.steps.Step.{Step}
 use Rattle.rule.specs.declared.steps.Step.TheVariants.{Test, Negate, Both, Either}
 use Rattle.rule.specs.declared.text.Level.{Level}
-use Rattle.rule.specs.declared.text.Mode.TheVariants.{Want, Named, Signed, Counting, Done}
+use Rattle.rule.specs.declared.text.Mode.TheVariants.{Want, Signed, Counting, Done}
 use Rattle.rule.specs.Marks.{mark_of}
 use Rattle.rule.specs.Stack.{onto, top, acts}
 use Rattle.rule.specs.Machine.{State, fresh, rested, step_if, ended, closed, next, scan, start, settle}
