@@ -6,7 +6,7 @@ ghost use Rattle.rule.specs.Machine.{bit, wait, weight, closed, leads, follows, 
 ghost use Rattle.rule.specs.Marks.{mark_of, opens, steps};
 ghost use Rattle.rule.specs.Reads.{Becomes, judgement, ends, Taken, Concluded, Read};
 ghost use Rattle.rule.specs.Refusing.{expects, is_follow, large};
-ghost use Rattle.rule.specs.Views.{state, waiting, code as written};
+ghost use Rattle.rule.specs.Views.{state, waiting, code as written, HasRoom};
 
 use crate::fault::TextFault;
 use crate::held::{MOST_STEPS, Rule};
@@ -62,7 +62,7 @@ impl Reader {
 
     // A factor is complete.
     fn complete(&mut self, level: Level)
-        requires { length (written self.old.rule) + (bit level.negated + bit level.both) ≤ most_steps }
+        requires { HasRoom self.old.rule (bit level.negated + bit level.both) }
         ensures { Becomes self.old self.new (closed level (waiting self.old.outer) (written self.old.rule)) }
     {
         self.rule.finish(level);
@@ -72,7 +72,7 @@ impl Reader {
 
     // A test is complete.
     fn test(&mut self, field: Field, sign: Sign, number: u16)
-        requires { length (written self.old.rule) + 1 + (bit self.old.level.negated + bit self.old.level.both) ≤ most_steps }
+        requires { HasRoom self.old.rule (1 + (bit self.old.level.negated + bit self.old.level.both)) }
         ensures { Becomes self.old self.new (closed self.old.level (waiting self.old.outer) (written self.old.rule ++ Step.Test field sign number ∷ [])) }
     {
         self.rule.push(Step::Test(field, sign, number));
