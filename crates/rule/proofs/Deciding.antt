@@ -11,7 +11,7 @@ use Rattle.rule.specs.declared.steps.Step.{Step}
 use Rattle.rule.specs.declared.steps.Step.TheVariants.{Test}
 use Rattle.rule.specs.declared.text.Level.{Level}
 use Rattle.rule.specs.declared.text.Mode.{Mode}
-use Rattle.rule.specs.declared.text.Mode.TheVariants.{Want, Named, Signed, Counting, Done}
+use Rattle.rule.specs.declared.text.Mode.TheVariants.{Want, Counting, Done}
 use Rattle.rule.specs.Marks.{mark_of, steps}
 use Rattle.rule.specs.Machine.{rested, finished, bit}
 use Rattle.rule.specs.Machine.State.{at}
@@ -25,11 +25,9 @@ abbrev Outcome : List ℕ → Type 0
 Outcome t = ((f : Description → Bool) × Accepted t f) ⊎ ((c : ℕ) × (k : ℕ) × Least t c k)
 
 concludes : (w : Mode) (l : Level) (ls : List Level) (c : List Step) → ends w ≡ true → (d : List Step) × Concluded (at w l ls c) ls d
-concludes Want l ls c a = absurd (both_ways false refl a)
-concludes (Named f) l ls c a = absurd (both_ways false refl a)
-concludes (Signed f s) l ls c a = absurd (both_ways false refl a)
 concludes (Counting f s v) l ls c a = (_, record { waiting = rested l; said = finished l (c ++ Test f s v ∷ []); is = refl; steps = refl })
 concludes Done l ls c a = (_, record { waiting = l; said = c; is = refl; steps = refl })
+concludes _ l ls c a = absurd (both_ways false refl a)
 
 at_end : (t : List ℕ) (w : Mode) (l : Level) (ls : List Level) (c : List Step) (n k i : ℕ) → Reading t w l ls c n k i → i ≡ length t → Outcome t
 at_end t w l ls c n k i r e = elim (cases_Bool (ends w && eqb (length ls) 0)) [

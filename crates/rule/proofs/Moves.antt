@@ -10,7 +10,7 @@ use Rattle.rule.specs.declared.text.Lead.TheVariants.{Letter, Not, Open}
 use Rattle.rule.specs.declared.text.Follow.{Follow}
 use Rattle.rule.specs.declared.text.Follow.TheVariants.{And, Or, Close}
 use Rattle.rule.specs.declared.text.Mark.{Mark}
-use Rattle.rule.specs.declared.text.Mark.TheVariants.{Lead as Leads, Compare, Digit, Follow as Follows, Other}
+use Rattle.rule.specs.declared.text.Mark.TheVariants.{Lead as Leads, Compare, Digit, Follow as Follows}
 use Rattle.rule.specs.declared.steps.Step.{Step}
 use Rattle.rule.specs.declared.steps.Step.TheVariants.{Test}
 use Rattle.rule.specs.declared.text.Level.{Level}
@@ -50,35 +50,16 @@ follow_moves st l [] c Close r e = inr refl
 follow_moves st l (j ∷ ls) c Close r e = inl (shuts r)
 
 pub moves : (st : State) (m : Mark) → Moves st m (next st m) ⊎ (next st m ≡ dead)
-moves dead m = inr refl
 moves (at Want l ls c) (Leads (Letter f)) = inl names
 moves (at Want l ls c) (Leads Not) = inl negates
 moves (at Want l ls c) (Leads Open) = inl enters
-moves (at Want l ls c) (Compare s) = inr refl
-moves (at Want l ls c) (Digit k) = inr refl
-moves (at Want l ls c) (Follows m) = inr refl
-moves (at Want l ls c) Other = inr refl
-moves (at (Named f) l ls c) (Leads h) = inr refl
 moves (at (Named f) l ls c) (Compare s) = inl signs
-moves (at (Named f) l ls c) (Digit k) = inr refl
-moves (at (Named f) l ls c) (Follows m) = inr refl
-moves (at (Named f) l ls c) Other = inr refl
-moves (at (Signed f s) l ls c) (Leads h) = inr refl
-moves (at (Signed f s) l ls c) (Compare r) = inr refl
 moves (at (Signed f s) l ls c) (Digit k) = cond_both (eqb k 0) _ _ (λ st. Moves (at (Signed f s) l ls c) (Digit k) st ⊎ (st ≡ dead))
     (λ e. inl (zeroes (eqb-true k 0 e))) (λ e. inl (begins (eqb-false k 0 e)))
-moves (at (Signed f s) l ls c) (Follows m) = inr refl
-moves (at (Signed f s) l ls c) Other = inr refl
-moves (at (Counting f s v) l ls c) (Leads h) = inr refl
-moves (at (Counting f s v) l ls c) (Compare r) = inr refl
 moves (at (Counting f s v) l ls c) (Digit k) = inl counts
 moves (at (Counting f s v) l ls c) (Follows m) = follow_moves _ _ _ _ m counted refl
-moves (at (Counting f s v) l ls c) Other = inr refl
-moves (at Done l ls c) (Leads h) = inr refl
-moves (at Done l ls c) (Compare r) = inr refl
-moves (at Done l ls c) (Digit k) = inr refl
 moves (at Done l ls c) (Follows m) = follow_moves _ _ _ _ m done refl
-moves (at Done l ls c) Other = inr refl
+moves _ _ = inr refl
 
 -- what is written and waits grows by at most one, at a step
 pub rests_weight : {st : State} {l : Level} {ls : List Level} {c : List Step} → Rests st l ls c → waits l + wait ls + length c ≤ weight st
@@ -87,20 +68,17 @@ rests_weight (counted {f} {s} {v} {l} {ls} {c}) =
     omega (arith, finished_length l (c ++ Test f s v ∷ []), length-append c (Test f s v ∷ []))
 
 move_weight : {st nt : State} {m : Mark} → Moves st m nt → weight nt ≤ weight st + bit (steps m)
-move_weight names = omega arith
 move_weight (negates {l} {ls} {c}) = go l.negated
   where
     go : (b : Bool) → 0 + (bit l.either + bit l.both + bit (not b)) + wait ls + length c ≤ 0 + (bit l.either + bit l.both + bit b) + wait ls + length c + 1
     go true = omega arith
     go false = omega arith
-move_weight enters = omega arith
 move_weight signs = omega arith
 move_weight (zeroes {f} {s} {k} {l} {ls} {c} e) = omega (arith, finished_length l (c ++ Test f s 0 ∷ []), length-append c (Test f s 0 ∷ []))
-move_weight (begins e) = omega arith
-move_weight counts = omega arith
 move_weight (ands r) = omega (arith, rests_weight r)
 move_weight (ors {st} {l} {ls} {c} r) = omega (arith, rests_weight r, ended_length l c)
 move_weight (shuts {st} {l} {j} {ls} {c} r) = omega (arith, rests_weight r, ended_length l c, finished_length j (ended l c))
+move_weight _ = omega arith
 
 next_weight : (st : State) (m : Mark) → weight (next st m) ≤ weight st + bit (steps m)
 next_weight st m = elim (moves st m) [ inl v ↦ move_weight v | inr e ↦ subst (λ nt. weight nt ≤ weight st + bit (steps m)) (sym e) (omega arith) ]
@@ -119,16 +97,11 @@ rests_depth done = refl
 rests_depth counted = refl
 
 pub move_depth : {st nt : State} {m : Mark} → Moves st m nt → depth nt + bit (closes m) ≡ depth st + bit (opens m)
-move_depth names = refl
-move_depth negates = refl
 move_depth enters = omega arith
-move_depth signs = refl
-move_depth (zeroes e) = refl
-move_depth (begins e) = refl
-move_depth counts = refl
 move_depth (ands r) = omega (arith, rests_depth r)
 move_depth (ors r) = omega (arith, rests_depth r)
 move_depth (shuts r) = omega (arith, rests_depth r)
+move_depth _ = refl
 
 pub scan_dead : (p : List ℕ) → scan dead p ≡ dead
 scan_dead [] = refl

@@ -20,7 +20,7 @@ use Rattle.rule.specs.declared.text.Lead.TheVariants.{Letter}
 use Rattle.rule.specs.declared.text.Mark.TheVariants.{Lead as Leads, Compare}
 use Rattle.rule.specs.declared.steps.Step.{Step}
 use Rattle.rule.specs.declared.text.Level.{Level}
-use Rattle.rule.specs.declared.text.Mode.TheVariants.{Want, Named, Signed, Counting, Done}
+use Rattle.rule.specs.declared.text.Mode.TheVariants.{Want, Named, Signed, Counting}
 use Rattle.rule.specs.Machine.{State, next, scan, start}
 use Rattle.rule.specs.Machine.State.{dead, at}
 use Rattle.rule.proofs.Bytes.{mark_digit}
@@ -30,20 +30,12 @@ use Rattle.rule.proofs.Viable.{alive_begins}
 
 -- a number is being read; it is too large
 abbrev pub counting : State → Bool
-counting dead = false
-counting (at Want l ls c) = false
-counting (at (Named f) l ls c) = false
-counting (at (Signed f s) l ls c) = false
 counting (at (Counting f s v) l ls c) = true
-counting (at Done l ls c) = false
+counting _ = false
 
 abbrev pub Big : State → Type 0
-Big dead = ⊥
-Big (at Want l ls c) = ⊥
-Big (at (Named f) l ls c) = ⊥
-Big (at (Signed f s) l ls c) = ⊥
 Big (at (Counting f s v) l ls c) = largest < v
-Big (at Done l ls c) = ⊥
+Big _ = ⊥
 
 abbrev pub Alive : List ℕ → ℕ → Type 0
 Alive t j = scan start (take j t) ≡ dead → ⊥
@@ -108,12 +100,8 @@ passed_less t i j h p = record {
 -- a number is being read after each of its digits
 after_letter : (st : State) (f : Field) (s : Sign) → (next (next st (Leads (Letter f))) (Compare s) ≡ dead → ⊥) →
     (l : Level) × (ls : List Level) × (c : List Step) × (next (next st (Leads (Letter f))) (Compare s) ≡ at (Signed f s) l ls c)
-after_letter dead f s a = absurd (a refl)
 after_letter (at Want l ls c) f s a = (l, ls, c, refl)
-after_letter (at (Named g) l ls c) f s a = absurd (a refl)
-after_letter (at (Signed g r) l ls c) f s a = absurd (a refl)
-after_letter (at (Counting g r v) l ls c) f s a = absurd (a refl)
-after_letter (at Done l ls c) f s a = absurd (a refl)
+after_letter _ f s a = absurd (a refl)
 
 digits_run : (f : Field) (s : Sign) (v : ℕ) (l : Level) (ls : List Level) (c : List Step) (d : Digits) (m : ℕ) →
     counting (scan (at (Counting f s v) l ls c) (take m (digits d))) ≡ true
@@ -170,10 +158,6 @@ module _ (t q : List ℕ) (f : Field) (s : Sign) (b : ℕ) (g : T (leading b)) (
 
 -- a number too large that begins at i or before is being read after the byte at i
 pub over_runs : (t : List ℕ) (i : ℕ) → Passed t i → {c k : ℕ} → Fault t c k → c ≡ 7 → k ≤ i → (i < length t) × (counting (scan start (take (i + 1) t)) ≡ true)
-over_runs t i p (long h) e g = absurd (omega arith)
-over_runs t i p (unexpected k h b a) e g = absurd (omega arith)
-over_runs t i p (ended b a) e g = absurd (omega arith)
-over_runs t i p (over q f s nought u w h) e g = absurd (omega arith)
 over_runs t i p (over q f s (figures b l d) u w h) e g =
     let a = p.alive (length q + 2) g in
     elim (cases_lt i (length q + 2 + (1 + length (digits d)))) [
@@ -184,8 +168,8 @@ over_runs t i p (over q f s (figures b l d) u w h) e g =
       )
       | inr x ↦ absurd (p.small _ x (big t q f s b l d u w a h))
     ]
-over_runs t i p (deep k h b a) e g = absurd (omega arith)
-over_runs t i p (steps k h b a) e g = absurd (omega arith)
+over_runs t i p (over q f s nought u w h) e g = absurd (omega arith)
+over_runs t i p _ e g = absurd (omega arith)
 
 -- every other fault stands at i or later
 late : (t : List ℕ) (i : ℕ) → Passed t i → {c k : ℕ} → Fault t c k → (6 ≤ c) × ((i ≤ k) ⊎ ((c ≡ 7) × (k < i)))
@@ -219,20 +203,12 @@ least_at t i c p q w h = record {
 }
 
 not_six : (t : List ℕ) (i : ℕ) → i < length t → Alive t (i + 1) → {c k : ℕ} → Fault t c k → i ≡ k → c ≡ 6 → ⊥
-not_six t i g a (long h) e w = omega arith
 not_six t i g a (unexpected k h b x) e w = x (alive_begins _ (subst (λ z. Alive t (z + 1)) e a))
-not_six t i g a (ended b x) e w = omega arith
-not_six t i g a (over q f s m u v h) e w = omega arith
-not_six t i g a (deep k h b x) e w = omega arith
-not_six t i g a (steps k h b x) e w = omega arith
+not_six t i g a _ e w = omega arith
 
 not_eight : (t : List ℕ) (i : ℕ) → Shallow t i → {c k : ℕ} → Fault t c k → i ≡ k → c ≡ 8 → ⊥
-not_eight t i a (long h) e w = omega arith
-not_eight t i a (unexpected k h b x) e w = omega arith
-not_eight t i a (ended b x) e w = omega arith
-not_eight t i a (over q f s m u v h) e w = omega arith
 not_eight t i a (deep k h b x) e w = subst (Shallow t) e a b x
-not_eight t i a (steps k h b x) e w = omega arith
+not_eight t i a _ e w = omega arith
 
 -- the six ways in which a text is refused, and the one in which it is not
 pub least_long : (t : List ℕ) → longest < length t → Least t 5 0
@@ -240,11 +216,7 @@ least_long t h = record { is = long h; least = λ d j f. elim (cases_lt 0 j) [ i
   where
     five : {c k : ℕ} → Fault t c k → 5 ≤ c
     five (long h) = omega arith
-    five (unexpected k h b a) = omega arith
-    five (ended b a) = omega arith
-    five (over q f s m u e h) = omega arith
-    five (deep k h b a) = omega arith
-    five (steps k h b a) = omega arith
+    five _ = omega arith
 
 pub least_byte : (t : List ℕ) (i : ℕ) → Passed t i → i < length t → scan start (take (i + 1) t) ≡ dead → Least t 6 i
 least_byte t i p h e = least_at t i 6 p (λ _. ap counting e)
@@ -265,11 +237,8 @@ least_end t p a = least_at t (length t) 6 p (λ h. absurd (omega arith))
 
 counting_sign : (st : State) (s : Sign) → counting (next st (Compare s)) ≡ false
 counting_sign dead s = refl
-counting_sign (at Want l ls c) s = refl
 counting_sign (at (Named f) l ls c) s = refl
-counting_sign (at (Signed f r) l ls c) s = refl
-counting_sign (at (Counting f r v) l ls c) s = refl
-counting_sign (at Done l ls c) s = refl
+counting_sign _ s = refl
 
 -- the number whose last digit is the byte at i is too large
 pub least_number : (t : List ℕ) (i : ℕ) (q : List ℕ) (f : Field) (s : Sign) (b : ℕ) (g : T (leading b)) (d : Digits) → Passed t i → i < length t → Alive t (i + 1) →

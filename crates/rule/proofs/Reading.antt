@@ -7,33 +7,33 @@
 -- Passing. Else the text has passed up to i + 1. At the end the machine rests with no bracket open exactly if the
 -- text is a rule, and what is written then are the steps of its tree.
 
-use Rattle.std.proofs.Common.{◌≡◌, ℕ, ◌+◌, ◌-◌, ◌*◌, ◌<◌, ◌≤◌, Bool, true, false, ◌&&◌, eqb, ◌⊎◌, List, [], ◌∷◌, ◌++◌, length, get_or, take, Ok, Err, Result, sym, refl, ap, ◌∙◌, subst, inl, inr, arith, length-take-le, take_all}
+use Rattle.std.proofs.Common.{◌≡◌, ℕ, ◌+◌, ◌-◌, ◌*◌, ◌<◌, ◌≤◌, Bool, true, false, cond, ◌&&◌, eqb, ◌⊎◌, List, [], ◌∷◌, ◌++◌, length, get_or, take, Ok, Err, Result, sym, refl, ap, ◌∙◌, subst, inl, inr, arith, length-take-le, take_all}
 use Rattle.std.proofs.lemmas.List.{take_more, nil_from_length}
 use Rattle.std.proofs.lemmas.Bool.{both_ways, ltb-true, ltb-false, lt-ltb, eqb-true, eqb-false, eq-eqb, and_parts, and_from, cond_both}
 use Rattle.std.proofs.lemmas.Bool.Decides.{nat_tests}
+use Rattle.cause.specs.declared.Cause.{Cause}
 use Rattle.cause.specs.Numbers.{number as listed}
 use Rattle.grammar.specs.Grammar.{digit, longest, largest, deepest, most_steps, count, step, IsRule, Least}
 use Rattle.rule.specs.declared.fault.TextFault.{TextFault}
-use Rattle.rule.specs.declared.text.Lead.TheVariants.{Letter, Not, Open}
+use Rattle.rule.specs.declared.text.Lead.TheVariants.{Letter}
 use Rattle.rule.specs.declared.text.Follow.{Follow}
 use Rattle.rule.specs.declared.text.Follow.TheVariants.{And, Or, Close}
 use Rattle.rule.specs.declared.text.Mark.{Mark}
-use Rattle.rule.specs.declared.text.Mark.TheVariants.{Lead as Leads, Compare, Digit, Follow as Follows, Other}
+use Rattle.rule.specs.declared.text.Mark.TheVariants.{Lead as Leads, Compare, Digit, Follow as Follows}
 use Rattle.rule.specs.declared.steps.Step.{Step}
 use Rattle.rule.specs.declared.text.Level.{Level}
 use Rattle.rule.specs.declared.text.Mode.{Mode}
 use Rattle.rule.specs.declared.text.Mode.TheVariants.{Want, Named, Signed, Counting, Done}
 use Rattle.rule.specs.Marks.{mark_of, steps, opens}
-use Rattle.rule.specs.Refusing.{expects, is_follow, large, verdict, Allowed, first_digit}
-use Rattle.rule.specs.Machine.{State, rested, bit, next, scan, start, settle, weight, ended}
+use Rattle.rule.specs.Refusing.{expects, is_follow, large, fault, verdict, Allowed, first_digit}
+use Rattle.rule.specs.Machine.{State, rested, bit, next, scan, start, settle, weight}
 use Rattle.rule.specs.Machine.State.{dead, at}
 use Rattle.rule.specs.Stack.{acts, top}
 use Rattle.rule.specs.Reads.{ends, Concluded}
 use Rattle.rule.specs.Says.{Accepted}
 use Rattle.rule.proofs.Bytes.{ByteOf, byte_of, step_same, open_same}
-use Rattle.rule.proofs.Moves.{rests_weight, Moves, moves, depth, move_depth, scan-++, scan_weight, scan_depth}
-use Rattle.rule.proofs.Moves.Rests.{counted}
-use Rattle.rule.proofs.Moves.Moves.{names, negates, enters, signs, zeroes, begins, counts, ands, ors, shuts}
+use Rattle.rule.proofs.Moves.{Moves, moves, depth, move_depth, scan-++, scan_weight, scan_depth}
+use Rattle.rule.proofs.Moves.Moves.{begins, counts}
 use Rattle.rule.proofs.Trees.{Whole, rule_whole, whole_same, post, answers}
 use Rattle.rule.proofs.Viable.{Read, read_more, read_none, whole_rule}
 use Rattle.rule.proofs.Passing.{counting, Big, Alive, Shallow, Few, Passed, passed_none, passed_more, least_byte, least_bracket, least_step, least_number, least_end, no_fault}
@@ -50,33 +50,12 @@ follow_lives l [] c Close = refl
 follow_lives l (j ∷ ls) c Close = lt-ltb 0 (length (j ∷ ls)) (omega arith)
 
 expects_lives : (w : Mode) (l : Level) (ls : List Level) (c : List Step) (m : Mark) → expects w m (length ls) ≡ lives (next (at w l ls c) m)
-expects_lives Want l ls c (Leads (Letter f)) = refl
-expects_lives Want l ls c (Leads Not) = refl
-expects_lives Want l ls c (Leads Open) = refl
-expects_lives Want l ls c (Compare s) = refl
-expects_lives Want l ls c (Digit k) = refl
-expects_lives Want l ls c (Follows m) = refl
-expects_lives Want l ls c Other = refl
-expects_lives (Named f) l ls c (Leads h) = refl
-expects_lives (Named f) l ls c (Compare s) = refl
-expects_lives (Named f) l ls c (Digit k) = refl
-expects_lives (Named f) l ls c (Follows m) = refl
-expects_lives (Named f) l ls c Other = refl
-expects_lives (Signed f s) l ls c (Leads h) = refl
-expects_lives (Signed f s) l ls c (Compare r) = refl
 expects_lives (Signed f s) l ls c (Digit k) = cond_both (eqb k 0) _ _ (λ st. true ≡ lives st) (λ z. refl) (λ z. refl)
-expects_lives (Signed f s) l ls c (Follows m) = refl
-expects_lives (Signed f s) l ls c Other = refl
-expects_lives (Counting f s v) l ls c (Leads h) = refl
-expects_lives (Counting f s v) l ls c (Compare r) = refl
-expects_lives (Counting f s v) l ls c (Digit k) = refl
 expects_lives (Counting f s v) l ls c (Follows m) = follow_lives (rested l) ls _ m
-expects_lives (Counting f s v) l ls c Other = refl
-expects_lives Done l ls c (Leads h) = refl
-expects_lives Done l ls c (Compare r) = refl
-expects_lives Done l ls c (Digit k) = refl
 expects_lives Done l ls c (Follows m) = follow_lives l ls c m
-expects_lives Done l ls c Other = refl
+expects_lives Want l ls c (Leads (Letter f)) = refl
+expects_lives (Named f) l ls c (Compare s) = refl
+expects_lives _ l ls c _ = refl
 
 dead_lives : (st : State) → lives st ≡ false → st ≡ dead
 dead_lives dead e = refl
@@ -87,18 +66,11 @@ lives_alive st e d = both_ways (lives st) (ap lives d) e
 
 -- after a step or a bracket no number is being read
 move_quiet : {st nt : State} {m : Mark} → Moves st m nt → (steps m ≡ true) ⊎ (opens m ≡ true) → counting nt ≡ false
-move_quiet names h = refl
-move_quiet negates h = refl
-move_quiet enters h = refl
-move_quiet signs h = refl
-move_quiet (zeroes e) h = refl
 move_quiet (begins e) (inl h) = absurd (both_ways false refl h)
 move_quiet (begins e) (inr h) = absurd (both_ways false refl h)
 move_quiet counts (inl h) = absurd (both_ways false refl h)
 move_quiet counts (inr h) = absurd (both_ways false refl h)
-move_quiet (ands r) h = refl
-move_quiet (ors r) h = refl
-move_quiet (shuts r) h = refl
+move_quiet _ h = refl
 
 next_quiet : (st : State) (m : Mark) → (steps m ≡ true) ⊎ (opens m ≡ true) → counting (next st m) ≡ false
 next_quiet st m h = elim (moves st m) [ inl v ↦ move_quiet v h | inr e ↦ ap counting e ]
@@ -112,16 +84,9 @@ low_digit : (b k : ℕ) → digit b ≡ true → k ≡ b - 48 → k < 10
 low_digit b k d e = grind (arith, nat_tests)
 
 move_small : {st nt : State} {m : Mark} (b : ℕ) → Moves st m nt → ByteOf m b → grows st m ≡ false → Big nt → ⊥
-move_small b names e g h = h
-move_small b negates e g h = h
-move_small b enters e g h = h
-move_small b signs e g h = h
-move_small b (zeroes z) e g h = h
 move_small b (begins {f} {s} {k} {l} {ls} {c} n) e g h = let y = low_digit b k e.0 e.1 in omega arith
 move_small b (counts {f} {s} {v} {k} {l} {ls} {c}) e g h = let y = ltb-false largest (10 * v + k) g in omega arith
-move_small b (ands r) e g h = h
-move_small b (ors r) e g h = h
-move_small b (shuts r) e g h = h
+move_small b _ e g h = h
 
 next_small : (st : State) (b : ℕ) → grows st (mark_of b) ≡ false → Big (next st (mark_of b)) → ⊥
 next_small st b g h = elim (moves st (mark_of b)) [ inl v ↦ move_small b v (byte_of b) g h | inr e ↦ subst Big e h ]
@@ -129,15 +94,6 @@ next_small st b g h = elim (moves st (mark_of b)) [ inl v ↦ move_small b v (by
 count-++ : (p : ℕ → Bool) (a : List ℕ) (b : ℕ) → count p (a ++ b ∷ []) ≡ count p a + bit (p b)
 count-++ p [] b = omega arith
 count-++ p (x ∷ a) b = omega (arith, count-++ p a b)
-
-opens_only : (m : Mark) → opens m ≡ true → m ≡ Leads Open
-opens_only (Leads (Letter f)) e = absurd (both_ways false refl e)
-opens_only (Leads Not) e = absurd (both_ways false refl e)
-opens_only (Leads Open) e = refl
-opens_only (Compare s) e = absurd (both_ways false refl e)
-opens_only (Digit k) e = absurd (both_ways false refl e)
-opens_only (Follows m) e = absurd (both_ways false refl e)
-opens_only Other e = absurd (both_ways false refl e)
 
 -- one more of a kind that may not pass its limit
 pub within : (x : Bool) (n m : ℕ) → n ≤ m → (x && eqb n m) ≡ false → n + bit x ≤ m
@@ -216,16 +172,9 @@ module _ (t : List ℕ) (w : Mode) (l : Level) (ls : List Level) (c : List Step)
     bad_number e g = go w m g onto read_on
       where
         go : (v : Mode) (x : Mark) → large v x ≡ true → scan start (take (i + 1) t) ≡ next (at v l ls c) x → Read (next (at v l ls c) x) (take (i + 1) t) (first_digit x i k) → Least t 7 k
-        go Want x g s p = absurd (both_ways false refl g)
-        go (Named f) x g s p = absurd (both_ways false refl g)
-        go (Signed f y) x g s p = absurd (both_ways false refl g)
-        go (Counting f y v) (Leads z) g s p = absurd (both_ways false refl g)
-        go (Counting f y v) (Compare z) g s p = absurd (both_ways false refl g)
         go (Counting f y v) (Digit d) g s p =
             subst (Least t 7) (sym p.6) (least_number t i p.0 f y p.1 p.2 p.3 r.passed h (alive_on e) p.4 (omega (arith, p.5, ltb-true largest (10 * v + d) g)))
-        go (Counting f y v) (Follows z) g s p = absurd (both_ways false refl g)
-        go (Counting f y v) Other g s p = absurd (both_ways false refl g)
-        go Done x g s p = absurd (both_ways false refl g)
+        go _ _ g s p = absurd (both_ways false refl g)
 
     bad_bracket : expects w m (length ls) ≡ true → (opens m && eqb (length ls) deepest) ≡ true → Least t 8 i
     bad_bracket e g =
@@ -289,18 +238,13 @@ module _ (t : List ℕ) (w : Mode) (l : Level) (ls : List Level) (c : List Step)
       both_ways _ a (and_from _ _ (go w x.waiting x.said y) (eq-eqb _ 0 (depth_none w (ap depth y)))))
     where
       go : (v : Mode) (o : Level) (s : List Step) → settle (at v l ls c) ≡ at Done o [] s → ends v ≡ true
-      go Want o s q = absurd (let z : ◌≡◌ {A = ℕ} 0 1 = cc in omega arith)
-      go (Named f) o s q = absurd (let z : ◌≡◌ {A = ℕ} 0 1 = cc in omega arith)
-      go (Signed f x) o s q = absurd (let z : ◌≡◌ {A = ℕ} 0 1 = cc in omega arith)
       go (Counting f x v) o s q = refl
       go Done o s q = refl
+      go _ o s q = absurd (let z : ◌≡◌ {A = ℕ} 0 1 = cc in omega arith)
 
       depth_none : (v : Mode) → depth (settle (at v l ls c)) ≡ 0 → length ls ≡ 0
-      depth_none Want q = q
-      depth_none (Named f) q = q
-      depth_none (Signed f x) q = q
       depth_none (Counting f x v) q = q
-      depth_none Done q = q
+      depth_none _ q = q
 
   -- the steps at the end answer what the text means
   pub granted : (d : List Step) → length ls ≡ 0 → Concluded (at w l ls c) ls d → Accepted t (λ x. top (acts x d 0))
@@ -319,28 +263,21 @@ module _ (t : List ℕ) (w : Mode) (l : Level) (ls : List Level) (c : List Step)
         };
       }
 
--- where a text may end, the last test and what waited for the last term complete the steps
-pub settle_weight : (st : State) → weight (settle st) ≤ weight st
-settle_weight dead = omega arith
-settle_weight (at Want l ls c) = omega arith
-settle_weight (at (Named f) l ls c) = omega arith
-settle_weight (at (Signed f s) l ls c) = omega arith
-settle_weight (at (Counting f s v) l ls c) = omega (arith, rests_weight (counted {f = f} {s = s} {v = v} {l = l} {ls = ls} {c = c}))
-settle_weight (at Done l ls c) = omega arith
+-- a fault that is returned is the least
+abbrev pub Right : List ℕ → Result (Unit {0}) TextFault → Type 0
+Right t (Ok u) = Unit {0}
+Right t (Err e) = Least t (listed e.cause) e.place
 
-pub conclude : (w : Mode) (l : Level) (ls : List Level) (c : List Step) (v : Mode) (j : Level) (js : List Level) (d e : List Step) →
-    ends w ≡ true → at v j js d ≡ settle (at w l ls c) → e ≡ ended j d → Concluded (at w l ls c) ls e
-conclude Want l ls c v j js d e a p q = absurd (both_ways false refl a)
-conclude (Named f) l ls c v j js d e a p q = absurd (both_ways false refl a)
-conclude (Signed f s) l ls c v j js d e a p q = absurd (both_ways false refl a)
-conclude (Counting f s k) l ls c v j js d e a p q =
-    let x : v ≡ Done = cc in
-    let y : js ≡ ls = cc in
-    record { waiting = j; said = d; is = sym p ∙ ap (λ m. at m j js d) x ∙ ap (λ m. at Done j m d) y; steps = sym q }
-conclude Done l ls c v j js d e a p q =
-    let x : v ≡ Done = cc in
-    let y : js ≡ ls = cc in
-    record { waiting = j; said = d; is = sym p ∙ ap (λ m. at m j js d) x ∙ ap (λ m. at Done j m d) y; steps = sym q }
+pub refused : (t : List ℕ) (w : Bool) (c : Cause) (i : ℕ) → (w ≡ true → Least t (listed c) i) → Right t (cond w (fault c i) (Ok tt))
+refused t true c i h = h refl
+refused t false c i h = tt
+
+never : {e : TextFault} → ◌≡◌ {A = Result (Unit {0}) TextFault} (Err e) (Ok tt) → ⊥
+never q = let z : ◌≡◌ {A = ℕ} 0 1 = cc in omega arith
+
+pub let_on : (w : Bool) (c : Cause) (i : ℕ) → Ok tt ≡ cond w (fault c i) (Ok tt) → w ≡ false
+let_on true c i e = absurd (never (sym e))
+let_on false c i e = refl
 
 -- a mark with nothing against it
 pub allowed_if : (w : Mode) (m : Mark) (d n i k : ℕ) → verdict w m d n i k ≡ Ok tt → Allowed w m d n
@@ -352,6 +289,3 @@ allowed_if w m d n i k =
     (λ o. cond_both (steps m && eqb n most_steps) _ _ P (λ s q. absurd (never q))
     (λ s q. record { expected = e; small = g; shallow = o; few = s }))))
     (λ e q. absurd (never q))
-  where
-    never : {e : TextFault} → ◌≡◌ {A = Result (Unit {0}) TextFault} (Err e) (Ok tt) → ⊥
-    never q = let z : ◌≡◌ {A = ℕ} 0 1 = cc in omega arith

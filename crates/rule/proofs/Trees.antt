@@ -22,7 +22,7 @@ use Rattle.rule.specs.declared.text.Mark.TheVariants.{Lead as Leads, Compare, Fo
 use Rattle.rule.specs.declared.steps.Step.{Step}
 use Rattle.rule.specs.declared.steps.Step.TheVariants.{Test, Negate, Both, Either}
 use Rattle.rule.specs.declared.text.Level.{Level}
-use Rattle.rule.specs.declared.text.Mode.TheVariants.{Want, Named, Signed, Counting, Done}
+use Rattle.rule.specs.declared.text.Mode.TheVariants.{Want, Signed, Counting, Done}
 use Rattle.rule.specs.Marks.{mark_of}
 use Rattle.rule.specs.Stack.{onto, top, acts}
 use Rattle.rule.specs.Machine.{State, fresh, rested, step_if, ended, closed, next, scan, start, settle}
@@ -43,12 +43,8 @@ post n (test f s k) = Test f s (amount k) ∷ step_if n Negate
 
 -- what follows a factor finds a number complete
 pub settled : (st : State) (m : Follow) → next st (Follows m) ≡ next (settle st) (Follows m)
-settled dead m = refl
-settled (at Want l ls c) m = refl
-settled (at (Named f) l ls c) m = refl
-settled (at (Signed f s) l ls c) m = refl
 settled (at (Counting f s v) l ls c) m = refl
-settled (at Done l ls c) m = refl
+settled _ m = refl
 
 pub T_true : (b : Bool) → T b → b ≡ true
 T_true true h = refl

@@ -187,12 +187,9 @@ fed_rule [] p e h = h
 fed_rule (l ∷ ls) p e h = absurd (let z : ◌≡◌ {A = ℕ} 0 1 = cc in omega arith)
 
 read_rule : (st : State) (p : List ℕ) (k : ℕ) (l : Level) (c : List Step) → Read st p k → settle st ≡ at Done l [] c → IsRule p
-read_rule dead p k l c h w = absurd (let z : ◌≡◌ {A = ℕ} 0 1 = cc in omega arith)
-read_rule (at Want m ls e) p k l c h w = absurd (let z : ◌≡◌ {A = ℕ} 0 1 = cc in omega arith)
-read_rule (at (Named f) m ls e) p k l c h w = absurd (let z : ◌≡◌ {A = ℕ} 0 1 = cc in omega arith)
-read_rule (at (Signed f s) m ls e) p k l c h w = absurd (let z : ◌≡◌ {A = ℕ} 0 1 = cc in omega arith)
 read_rule (at (Counting f s v) m ls e) p k l c h w = fed_rule ls p (cc) (rests_fed p k (counted {f = f} {s = s} {v = v} {l = m} {ls = ls} {c = e}) h)
 read_rule (at Done m ls e) p k l c h w = fed_rule ls p (cc) h
+read_rule _ p k l c h w = absurd (let z : ◌≡◌ {A = ℕ} 0 1 = cc in omega arith)
 
 pub whole_rule : (t : List ℕ) (l : Level) (c : List Step) → settle (scan start t) ≡ at Done l [] c → IsRule t
 whole_rule t l c w = let i = read_all start [] t 0 read_none in read_rule (scan start t) t i.0 l c i.1 w

@@ -9,7 +9,7 @@ use Rattle.rule.specs.declared.text.Lead.TheVariants.{Letter, Not, Open}
 use Rattle.rule.specs.declared.text.Follow.{Follow}
 use Rattle.rule.specs.declared.text.Follow.TheVariants.{And, Or, Close}
 use Rattle.rule.specs.declared.text.Mark.{Mark}
-use Rattle.rule.specs.declared.text.Mark.TheVariants.{Lead as Leads, Compare, Digit, Follow as Follows, Other}
+use Rattle.rule.specs.declared.text.Mark.TheVariants.{Lead as Leads, Compare, Digit, Follow as Follows}
 use Rattle.rule.specs.declared.steps.Step.{Step}
 use Rattle.rule.specs.declared.steps.Step.TheVariants.{Test, Negate, Both, Either}
 use Rattle.rule.specs.declared.text.Level.{Level}
@@ -68,32 +68,13 @@ follows l ls c Or = at Want ored ls (ended l c)
 follows l ls c Close = shut ls (ended l c)
 
 abbrev pub next : State → Mark → State
-next dead m = dead
 next (at Want l ls c) (Leads h) = leads l ls c h
-next (at Want l ls c) (Compare r) = dead
-next (at Want l ls c) (Digit k) = dead
-next (at Want l ls c) (Follows m) = dead
-next (at Want l ls c) Other = dead
-next (at (Named f) l ls c) (Leads h) = dead
 next (at (Named f) l ls c) (Compare s) = at (Signed f s) l ls c
-next (at (Named f) l ls c) (Digit k) = dead
-next (at (Named f) l ls c) (Follows m) = dead
-next (at (Named f) l ls c) Other = dead
-next (at (Signed f s) l ls c) (Leads h) = dead
-next (at (Signed f s) l ls c) (Compare r) = dead
 next (at (Signed f s) l ls c) (Digit k) = cond (k == 0) (closed l ls (c ++ Test f s 0 ∷ [])) (at (Counting f s k) l ls c)
-next (at (Signed f s) l ls c) (Follows m) = dead
-next (at (Signed f s) l ls c) Other = dead
-next (at (Counting f s v) l ls c) (Leads h) = dead
-next (at (Counting f s v) l ls c) (Compare r) = dead
 next (at (Counting f s v) l ls c) (Digit k) = at (Counting f s (10 * v + k)) l ls c
 next (at (Counting f s v) l ls c) (Follows m) = follows (rested l) ls (finished l (c ++ Test f s v ∷ [])) m
-next (at (Counting f s v) l ls c) Other = dead
-next (at Done l ls c) (Leads h) = dead
-next (at Done l ls c) (Compare r) = dead
-next (at Done l ls c) (Digit k) = dead
 next (at Done l ls c) (Follows m) = follows l ls c m
-next (at Done l ls c) Other = dead
+next _ _ = dead
 
 abbrev pub start : State
 start = at Want fresh [] []
@@ -104,12 +85,8 @@ scan st (b ∷ t) = scan (next st (mark_of b)) t
 
 -- a number is complete where the text ends, or goes on with no digit
 abbrev pub settle : State → State
-settle dead = dead
-settle (at Want l ls c) = at Want l ls c
-settle (at (Named f) l ls c) = at (Named f) l ls c
-settle (at (Signed f s) l ls c) = at (Signed f s) l ls c
 settle (at (Counting f s v) l ls c) = closed l ls (c ++ Test f s v ∷ [])
-settle (at Done l ls c) = at Done l ls c
+settle st = st
 
 -- how many steps are written or wait to be
 abbrev pub waits : Level → ℕ
@@ -121,10 +98,8 @@ wait (l ∷ ls) = waits l + wait ls
 
 abbrev pub in_test : Mode → ℕ
 in_test Want = 0
-in_test (Named f) = 1
-in_test (Signed f s) = 1
-in_test (Counting f s v) = 1
 in_test Done = 0
+in_test _ = 1
 
 abbrev pub weight : State → ℕ
 weight dead = 0

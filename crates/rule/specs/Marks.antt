@@ -29,28 +29,14 @@ mark_of b =
 abbrev pub steps : Mark → Bool
 steps (Leads (Letter f)) = true
 steps (Leads Not) = true
-steps (Leads Open) = false
-steps (Compare s) = false
-steps (Digit k) = false
 steps (Follows And) = true
 steps (Follows Or) = true
-steps (Follows Close) = false
-steps Other = false
+steps _ = false
 
 abbrev pub opens : Mark → Bool
-opens (Leads (Letter f)) = false
-opens (Leads Not) = false
 opens (Leads Open) = true
-opens (Compare s) = false
-opens (Digit k) = false
-opens (Follows m) = false
-opens Other = false
+opens _ = false
 
 abbrev pub closes : Mark → Bool
-closes (Leads h) = false
-closes (Compare s) = false
-closes (Digit k) = false
-closes (Follows And) = false
-closes (Follows Or) = false
 closes (Follows Close) = true
-closes Other = false
+closes _ = false

@@ -10,7 +10,7 @@ use Rattle.rule.specs.declared.text.Level.{Level}
 use Rattle.rule.specs.declared.text.Mode.{Mode}
 use Rattle.rule.specs.declared.text.reader.Reader.{Reader}
 use Rattle.rule.specs.declared.steps.Step.{Step}
-use Rattle.rule.specs.declared.text.Mode.TheVariants.{Want, Named, Signed, Counting, Done}
+use Rattle.rule.specs.declared.text.Mode.TheVariants.{Counting, Done}
 use Rattle.rule.specs.Marks.{steps}
 use Rattle.rule.specs.Machine.{State, bit, ended, next, settle}
 use Rattle.rule.specs.Machine.State.{at}
@@ -39,11 +39,9 @@ Taken before after m i (Err e) = judgement before m i ≡ Err e
 
 -- the modes in which a text may end
 abbrev pub ends : Mode → Bool
-ends Want = false
-ends (Named f) = false
-ends (Signed f s) = false
 ends (Counting f s v) = true
 ends Done = true
+ends _ = false
 
 -- the steps d are what is written if the text ends there
 pub record Concluded (st : State) (ls : List Level) (d : List Step) : Type 0 where

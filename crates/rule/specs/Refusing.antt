@@ -8,41 +8,29 @@ use Rattle.grammar.specs.Grammar.{largest, deepest, most_steps}
 use Rattle.rule.specs.declared.fault.TextFault.{TextFault}
 use Rattle.rule.specs.declared.text.Follow.TheVariants.{And, Or, Close}
 use Rattle.rule.specs.declared.text.Mark.{Mark}
-use Rattle.rule.specs.declared.text.Mark.TheVariants.{Lead as Leads, Compare, Digit, Follow as Follows, Other}
+use Rattle.rule.specs.declared.text.Mark.TheVariants.{Lead as Leads, Compare, Digit, Follow as Follows}
 use Rattle.rule.specs.declared.text.Mode.{Mode}
 use Rattle.rule.specs.declared.text.Mode.TheVariants.{Want, Named, Signed, Counting, Done}
 use Rattle.rule.specs.Marks.{steps, opens}
 
 abbrev pub is_lead : Mark → Bool
 is_lead (Leads h) = true
-is_lead (Compare s) = false
-is_lead (Digit k) = false
-is_lead (Follows m) = false
-is_lead Other = false
+is_lead _ = false
 
 abbrev pub is_sign : Mark → Bool
-is_sign (Leads h) = false
 is_sign (Compare s) = true
-is_sign (Digit k) = false
-is_sign (Follows m) = false
-is_sign Other = false
+is_sign _ = false
 
 abbrev pub is_digit : Mark → Bool
-is_digit (Leads h) = false
-is_digit (Compare s) = false
 is_digit (Digit k) = true
-is_digit (Follows m) = false
-is_digit Other = false
+is_digit _ = false
 
 -- a closing bracket wants an open one
 abbrev pub is_follow : Mark → ℕ → Bool
-is_follow (Leads h) d = false
-is_follow (Compare s) d = false
-is_follow (Digit k) d = false
 is_follow (Follows And) d = true
 is_follow (Follows Or) d = true
 is_follow (Follows Close) d = nat_lt 0 d
-is_follow Other d = false
+is_follow _ d = false
 
 abbrev pub expects : Mode → Mark → ℕ → Bool
 expects Want m d = is_lead m
@@ -52,19 +40,9 @@ expects (Counting f s v) m d = is_digit m || is_follow m d
 expects Done m d = is_follow m d
 
 -- the number would become too large
-abbrev pub grown : ℕ → Mark → ℕ
-grown v (Leads h) = 0
-grown v (Compare s) = 0
-grown v (Digit k) = 10 * v + k
-grown v (Follows m) = 0
-grown v Other = 0
-
 abbrev pub large : Mode → Mark → Bool
-large Want m = false
-large (Named f) m = false
-large (Signed f s) m = false
-large (Counting f s v) m = nat_lt largest (grown v m)
-large Done m = false
+large (Counting f s v) (Digit k) = nat_lt largest (10 * v + k)
+large _ _ = false
 
 abbrev pub fault : Cause → ℕ → Result (Unit {0}) TextFault
 fault c i = Err (record { cause = c; place = i })
@@ -87,8 +65,5 @@ pub record Allowed (w : Mode) (m : Mark) (d n : ℕ) : Type 0 where
 
 -- after a sign at the place i the number begins
 abbrev pub first_digit : Mark → ℕ → ℕ → ℕ
-first_digit (Leads h) i k = k
 first_digit (Compare s) i k = i + 1
-first_digit (Digit d) i k = k
-first_digit (Follows m) i k = k
-first_digit Other i k = k
+first_digit _ i k = k

@@ -1,13 +1,14 @@
 // The steps that a rule is written down as. They run over a stack of answers: a test puts an answer
 // on it, the others replace the last one or two.
 
-ghost use Rattle.std.specs.Prelude.{◌≡◌, ◌/◌, ◌^◌, ◌<◌, ◌&&◌, ◌||◌};
+ghost use Rattle.std.specs.Prelude.{◌≡◌, ◌/◌, ◌^◌, ◌<◌};
 ghost use Rattle.grammar.specs.Grammar.{field as asked, compares};
-ghost use Rattle.rule.specs.Stack.{act as acted, onto, top as last};
+ghost use Rattle.rule.specs.Stack.{act, onto, top};
 
 use grammar::{Description, Field, Sign};
+use std::marker::Model;
 
-#[derive(Clone, Copy)]
+#[derive(Clone, Copy, PartialEq, Eq, Debug)]
 pub enum Step {
     Test(Field, Sign, u16),
     Negate,
@@ -15,6 +16,52 @@ pub enum Step {
     Either,
 }
 
+// The answers so far are the bits of a number, the last one lowest.
+#[derive(Drop)]
+pub struct Answers {
+    bits: u64,
+}
+
+impl Model for Answers {
+    ghost use Rattle.std.specs.Prelude.{ℕ};
+
+    ghost Value = { ℕ };
+
+    ghost view = { λ a. a.bits };
+}
+
+impl Answers {
+    pub fn none() -> Answers
+        ensures { result ≡ 0 }
+    {
+        Answers { bits: 0 }
+    }
+
+    pub fn top(&self) -> bool
+        ensures { result ≡ top self.now }
+    {
+        self.bits % 2 == 1
+    }
+
+    fn push(&mut self, answer: bool)
+        requires { self.old < 2 ^ 63 }
+        ensures { self.new ≡ onto answer self.old }
+    {
+        self.bits = self.bits * 2 + u64::from(answer);
+    }
+
+    fn pop(&mut self) -> bool
+        ensures answer { result ≡ top self.old }
+        ensures others { self.new ≡ self.old / 2 }
+    {
+        let answer = self.top();
+        self.bits /= 2;
+        answer
+    }
+}
+
+// `Field` and `Sign` are of the crate grammar, so these two can't be methods of theirs, and a trait of
+// one method each would be no plainer.
 fn field_of(field: Field, lot: Description) -> u16
     ensures { result ≡ asked field lot }
 {
@@ -36,40 +83,29 @@ fn compare(sign: Sign, a: u16, b: u16) -> bool
     }
 }
 
-// The stack is the bits of a number, the last answer lowest.
-fn push(stack: u64, answer: bool) -> u64
-    requires { stack < 2 ^ 63 }
-    ensures { result ≡ onto answer stack }
-{
-    if answer { stack * 2 + 1 } else { stack * 2 }
-}
-
-pub fn top(stack: u64) -> bool
-    ensures { result ≡ last stack }
-{
-    stack % 2 == 1
-}
-
-fn both(stack: u64) -> bool
-    ensures { result ≡ (last (stack / 2) && last stack) }
-{
-    if top(stack / 2) { top(stack) } else { false }
-}
-
-fn either(stack: u64) -> bool
-    ensures { result ≡ (last (stack / 2) || last stack) }
-{
-    if top(stack / 2) { true } else { top(stack) }
-}
-
-pub fn act(step: Step, lot: Description, stack: u64) -> u64
-    requires { stack < 2 ^ 63 }
-    ensures { result ≡ acted lot step stack }
-{
-    match step {
-        Step::Test(field, sign, number) => push(stack, compare(sign, field_of(field, lot), number)),
-        Step::Negate => push(stack / 2, !top(stack)),
-        Step::Both => push(stack / 2 / 2, both(stack)),
-        Step::Either => push(stack / 2 / 2, either(stack)),
+impl Step {
+    pub fn run(self, lot: Description, answers: &mut Answers)
+        requires { answers.old < 2 ^ 63 }
+        ensures { answers.new ≡ act lot self answers.old }
+    {
+        match self {
+            Step::Test(field, sign, number) => {
+                answers.push(compare(sign, field_of(field, lot), number));
+            }
+            Step::Negate => {
+                let last = answers.pop();
+                answers.push(!last);
+            }
+            Step::Both => {
+                let last = answers.pop();
+                let before = answers.pop();
+                answers.push(before && last);
+            }
+            Step::Either => {
+                let last = answers.pop();
+                let before = answers.pop();
+                answers.push(before || last);
+            }
+        }
     }
 }

@@ -1,29 +1,30 @@
 // The reader of a rule text.
 
-ghost use Rattle.std.specs.Prelude.{◌≡◌, ◌+◌, ◌≤◌, true, false, ◌&&◌, [], ◌∷◌, ◌++◌, length, ◌==◌};
-ghost use Rattle.rule.specs.Machine.{bit, wait, weight, closed, leads, follows, next, settle as settled, start};
+ghost use Rattle.std.specs.Prelude.{◌≡◌, ◌+◌, ◌<◌, ◌≤◌, true, false, ◌&&◌, [], ◌∷◌, ◌++◌, length, ◌==◌};
+ghost use Rattle.grammar.specs.Grammar.{longest, deepest, most_steps};
+ghost use Rattle.rule.specs.Machine.{bit, wait, weight, closed, leads, follows, shut, next, settle as settled, start};
 ghost use Rattle.rule.specs.Marks.{mark_of, opens, steps};
 ghost use Rattle.rule.specs.Reads.{Becomes, judgement, ends, Taken, Concluded, Read};
-ghost use Rattle.rule.specs.Refusing.{expects, is_follow, large as exceeds};
-ghost use Rattle.rule.specs.Views.{state, waiting, code as written};
+ghost use Rattle.rule.specs.Refusing.{expects, is_follow, large};
+ghost use Rattle.rule.specs.Views.{state, waiting, code as written, HasRoom};
 
 use crate::fault::TextFault;
-use crate::held::Rule;
+use crate::held::{MOST_STEPS, Rule};
 use crate::steps::Step;
-use crate::text::brackets::Brackets;
-use crate::text::{
-    Follow, Lead, Level, Mark, Mode, counted, expected, large, lex, number_place, refuse, too_deep,
-    too_long, too_many,
-};
+use crate::text::{Follow, Lead, Level, Mark, Mode, is_too_long};
+use arrayvec::ArrayVec;
 use cause::Cause;
 use grammar::{Field, Sign};
 
-// Where it stands, what it has written, how many steps it has seen, and where the last number began.
-#[derive(Clone, Copy)]
+const DEEPEST: usize = 16;
+
+// Where it stands, what waits outside each open bracket, what it has written, how many steps it has seen,
+// and where the last number began.
+#[derive(Drop)]
 pub struct Reader {
     mode: Mode,
     level: Level,
-    outer: Brackets,
+    outer: ArrayVec<Level, DEEPEST>,
     rule: Rule,
     count: usize,
     digit: usize,
@@ -36,8 +37,8 @@ impl Reader {
     {
         Reader {
             mode: Mode::Want,
-            level: Level::fresh(),
-            outer: Brackets::none(),
+            level: Level::default(),
+            outer: ArrayVec::new(),
             rule: Rule::blank(),
             count: 0,
             digit: 0,
@@ -48,25 +49,20 @@ impl Reader {
     fn admit(&self, mark: Mark, place: usize) -> Result<(), TextFault>
         ensures { result ≡ judgement self.now mark place }
     {
-        let depth = self.outer.depth();
-        if !expected(self.mode, mark, depth) {
-            return refuse(Cause::ByteUnexpected, place);
-        }
-        if large(self.mode, mark) {
-            return refuse(Cause::NumberLarge, self.digit);
-        }
-        if too_deep(mark, depth) {
-            return refuse(Cause::BracketDeep, place);
-        }
-        if too_many(mark, self.count) {
-            return refuse(Cause::StepsMany, place);
-        }
-        Ok(())
+        let depth = self.outer.len();
+        let unexpected = !self.mode.expects(mark, depth);
+        TextFault::refuse_if(unexpected, Cause::ByteUnexpected, place)?;
+        let large = self.mode.is_outgrown(mark);
+        TextFault::refuse_if(large, Cause::NumberLarge, self.digit)?;
+        let deep = mark.opens() && depth == DEEPEST;
+        TextFault::refuse_if(deep, Cause::BracketDeep, place)?;
+        let late = mark.is_step() && self.count == MOST_STEPS;
+        TextFault::refuse_if(late, Cause::StepsMany, place)
     }
 
     // A factor is complete.
     fn complete(&mut self, level: Level)
-        requires { length (written self.old.rule) + (bit level.negated + bit level.both) ≤ 64 }
+        requires { HasRoom self.old.rule (bit level.negated + bit level.both) }
         ensures { Becomes self.old self.new (closed level (waiting self.old.outer) (written self.old.rule)) }
     {
         self.rule.finish(level);
@@ -76,34 +72,44 @@ impl Reader {
 
     // A test is complete.
     fn test(&mut self, field: Field, sign: Sign, number: u16)
-        requires { length (written self.old.rule) + 1 + (bit self.old.level.negated + bit self.old.level.both) ≤ 64 }
+        requires { HasRoom self.old.rule (1 + (bit self.old.level.negated + bit self.old.level.both)) }
         ensures { Becomes self.old self.new (closed self.old.level (waiting self.old.outer) (written self.old.rule ++ Step.Test field sign number ∷ [])) }
     {
-        let level = self.level;
         self.rule.push(Step::Test(field, sign, number));
-        self.complete(level);
+        self.complete(self.level);
     }
 
     // A factor begins.
     fn lead(&mut self, lead: Lead)
         requires want { self.old.mode ≡ Mode.Want }
-        requires deep { length (waiting self.old.outer) + bit (opens (Mark.Lead lead)) ≤ 16 }
+        requires deep { length (waiting self.old.outer) + bit (opens (Mark.Lead lead)) ≤ deepest }
         ensures { Becomes self.old self.new (leads self.old.level (waiting self.old.outer) (written self.old.rule) lead) }
     {
         match lead {
             Lead::Letter(field) => self.mode = Mode::Named(field),
             Lead::Not => self.level = self.level.flipped(),
             Lead::Open => {
-                self.outer.open(self.level);
-                self.level = Level::fresh();
+                self.outer.push(self.level);
+                self.level = Level::default();
             }
+        }
+    }
+
+    // The innermost bracket closes, and the rule in it is a factor.
+    fn close(&mut self)
+        requires open { 0 < length (waiting self.old.outer) }
+        requires room { wait (waiting self.old.outer) + length (written self.old.rule) ≤ most_steps }
+        ensures { Becomes self.old self.new (shut (waiting self.old.outer) (written self.old.rule)) }
+    {
+        if let Some(outer) = self.outer.pop() {
+            self.complete(outer);
         }
     }
 
     // A factor is followed.
     fn follow(&mut self, follow: Follow)
         requires open { is_follow (Mark.Follow follow) (length (waiting self.old.outer)) ≡ true }
-        requires room { bit self.old.level.either + wait (waiting self.old.outer) + length (written self.old.rule) ≤ 64 }
+        requires room { bit self.old.level.either + wait (waiting self.old.outer) + length (written self.old.rule) ≤ most_steps }
         ensures { Becomes self.old self.new (follows self.old.level (waiting self.old.outer) (written self.old.rule) follow) }
     {
         match follow {
@@ -118,8 +124,7 @@ impl Reader {
             }
             Follow::Close => {
                 self.rule.end(self.level);
-                let outer = self.outer.close();
-                self.complete(outer);
+                self.close();
             }
         }
     }
@@ -127,23 +132,20 @@ impl Reader {
     // The mark is taken.
     fn advance(&mut self, mark: Mark)
         requires lived { expects self.old.mode mark (length (waiting self.old.outer)) ≡ true }
-        requires small { exceeds self.old.mode mark ≡ false }
-        requires deep { length (waiting self.old.outer) + bit (opens mark) ≤ 16 }
-        requires room { weight (state self.old) + bit (steps mark) ≤ 64 }
+        requires small { large self.old.mode mark ≡ false }
+        requires deep { length (waiting self.old.outer) + bit (opens mark) ≤ deepest }
+        requires room { weight (state self.old) + bit (steps mark) ≤ most_steps }
         ensures { Becomes self.old self.new (next (state self.old) mark) }
     {
         match (self.mode, mark) {
             (Mode::Want, Mark::Lead(lead)) => self.lead(lead),
             (Mode::Named(field), Mark::Compare(sign)) => self.mode = Mode::Signed(field, sign),
+            (Mode::Signed(field, sign), Mark::Digit(0)) => self.test(field, sign, 0),
             (Mode::Signed(field, sign), Mark::Digit(digit)) => {
-                if digit == 0 {
-                    self.test(field, sign, 0);
-                } else {
-                    self.mode = Mode::Counting(field, sign, digit as u16);
-                }
+                self.mode = Mode::Counting(field, sign, u16::from(digit));
             }
             (Mode::Counting(field, sign, value), Mark::Digit(digit)) => {
-                self.mode = Mode::Counting(field, sign, 10 * value + digit as u16);
+                self.mode = Mode::Counting(field, sign, 10 * value + u16::from(digit));
             }
             (Mode::Counting(field, sign, value), Mark::Follow(follow)) => {
                 self.test(field, sign, value);
@@ -156,16 +158,17 @@ impl Reader {
 
     // Takes the byte at the place.
     fn take(&mut self, byte: u8, place: usize) -> Result<(), TextFault>
-        requires near { place ≤ 1024 }
-        requires few { self.old.count ≤ 64 }
+        requires near { place ≤ longest }
+        requires deep { length (waiting self.old.outer) ≤ deepest }
+        requires few { self.old.count ≤ most_steps }
         requires room { weight (state self.old) ≤ self.old.count }
         ensures { Taken self.old self.new (mark_of byte) place result }
     {
-        let mark = lex(byte);
+        let mark = Mark::from(byte);
         self.admit(mark, place)?;
         self.advance(mark);
-        self.count = counted(mark, self.count);
-        self.digit = number_place(mark, place, self.digit);
+        self.count += usize::from(mark.is_step());
+        self.digit = mark.number_place(place, self.digit);
         Ok(())
     }
 
@@ -173,31 +176,28 @@ impl Reader {
     fn may_end(&self) -> bool
         ensures { result ≡ (ends self.now.mode && length (waiting self.now.outer) == 0) }
     {
-        match self.mode {
-            Mode::Counting(_, _, _) | Mode::Done => self.outer.depth() == 0,
-            _ => false,
-        }
+        matches!(self.mode, Mode::Counting(_, _, _) | Mode::Done) && self.outer.is_empty()
     }
 
     // A number that is being read is complete.
     fn settle(&mut self)
-        requires { weight (state self.old) ≤ 64 }
+        requires { weight (state self.old) ≤ most_steps }
         ensures { state self.new ≡ settled (state self.old) }
     {
-        match self.mode {
-            Mode::Counting(field, sign, value) => self.test(field, sign, value),
-            _ => {}
+        if let Mode::Counting(field, sign, value) = self.mode {
+            self.test(field, sign, value);
         }
     }
 
-    // Completes the rule where the text ends.
-    fn conclude(&mut self)
-        requires whole { ends self.old.mode ≡ true }
-        requires room { weight (state self.old) ≤ 64 }
-        ensures { Concluded (state self.old) (waiting self.old.outer) (written self.new.rule) }
+    // The rule, complete where the text ends.
+    fn conclude(mut self) -> Rule
+        requires whole { ends self.mode ≡ true }
+        requires room { weight (state self) ≤ most_steps }
+        ensures { Concluded (state self) (waiting self.outer) (written result) }
     {
         self.settle();
         self.rule.end(self.level);
+        self.rule
     }
 }
 
@@ -205,22 +205,11 @@ impl Reader {
 pub fn read(text: &[u8]) -> Result<Rule, TextFault>
     ensures { Read text.now result }
 {
-    if too_long(text) {
-        return Err(TextFault {
-            cause: Cause::TextLong,
-            place: 0,
-        });
-    }
+    TextFault::refuse_if(is_too_long(text), Cause::TextLong, 0)?;
     let mut reader = Reader::new();
     for (place, byte) in text.iter().enumerate() {
         reader.take(*byte, place)?;
     }
-    if !reader.may_end() {
-        return Err(TextFault {
-            cause: Cause::ByteUnexpected,
-            place: text.len(),
-        });
-    }
-    reader.conclude();
-    Ok(reader.rule)
+    TextFault::refuse_if(!reader.may_end(), Cause::ByteUnexpected, text.len())?;
+    Ok(reader.conclude())
 }
