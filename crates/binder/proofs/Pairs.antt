@@ -1,14 +1,11 @@
--- The laws of pairs. At a switch of 16 every number below 16 is the first's, and from there on neither the pair nor,
--- by its laws, the first binder has anything; at 0 every number below 16 is the second's own, and so on. Of three
--- binders in a row the outer switch only says how many numbers the first one or two take, and the third is counted
--- from there.
+-- A pair at its ends. At a switch of 16 every number below 16 is the first's, and from there on neither the pair nor,
+-- by its laws, the first binder has anything; at 0 every number below 16 is the second's own, and so on.
 
-use Rattle.std.proofs.Common.{◌≡◌, ℕ, ◌≤◌, false, arith, rules}
+use Rattle.std.proofs.Common.{◌≡◌, ℕ, ◌≤◌, false, arith}
 use Rattle.std.proofs.lemmas.Bool.Decides.{nat_tests}
 use Rattle.grammar.specs.declared.Description.{Description}
 use Rattle.binder.specs.Meaning.{Meaning, Lawful, Same}
 use Rattle.binder.specs.Layers.{joined}
-use Rattle.binder.specs.Laws.{PairsAssociate}
 
 -- a lawful binder has nothing from number 16 on
 admits_past : (m : Meaning) → Lawful m → (n : ℕ) (d : Description) → 16 ≤ n → m.admits n d ≡ false
@@ -30,6 +27,3 @@ second_at_0 a b law = record {
   admits = λ n d. let p = admits_past b law n d in grind (arith, nat_tests);
   share = λ n i. let p = share_past b law n i in grind (arith, nat_tests);
 }
-
-pub associate : PairsAssociate
-associate j k a b c h = search rules
