@@ -62,6 +62,8 @@ fn side<'a>(
     switch.ask(number, |n| (first, n), |n| (second, n))
 }
 
+// The types `Exclusion` and `Pair` of the crate binder would hand each question on, but a cycle of calls
+// through their methods gets no proof: so the list and the switch are asked here.
 impl Binder for AnyBinder {
     ghost meaning = { any_meaning };
 
