@@ -2,8 +2,8 @@
 
 use Rattle.std.specs.Prelude.{◌≡◌, ℕ, ◌<◌, ◌≤◌, Bool, List, Result, MatchResult, slice_index_or}
 use Rattle.cause.specs.declared.Cause.TheVariants.{RangePassed}
-use Rattle.binder.specs.Meaning.{Meaning, single}
 use Rattle.grammar.specs.declared.Description.{Description}
+use Rattle.binder.specs.Meaning.{Meaning, single}
 use Rattle.binder.specs.Limit.{LimitInRange, within}
 use Rattle.binder.specs.declared.fault.TableFault.{TableFault}
 use Rattle.binder.specs.declared.limit.ClassLimit.{ClassLimit}

@@ -6,15 +6,16 @@ use Rattle.cause.specs.Numbers.{number as listed}
 use Rattle.cause.specs.declared.Cause.TheVariants.{RangePassed}
 use Rattle.grammar.specs.Grammar.{Faultless, Least}
 use Rattle.rule.specs.Says.{says, Accepted}
+use Rattle.rule.specs.declared.held.Rule.{Rule}
 use Rattle.binder.specs.Meaning.{Meaning, single}
 use Rattle.binder.specs.declared.fault.ScheduleFault.{ScheduleFault}
 use Rattle.binder.specs.declared.single.Single.{Single}
-use Rattle.rule.specs.declared.held.Rule.{Rule}
 
--- a lot passes if the rule says yes to it
+-- a rule, and a share
 abbrev pub RuleSchedule : Type 0
 RuleSchedule = Single Rule
 
+-- a lot passes if the rule says yes to it
 abbrev pub schedule_meaning : RuleSchedule → Meaning
 schedule_meaning s = single (says s.criteria) s.share.parts
 

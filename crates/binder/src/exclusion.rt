@@ -1,6 +1,6 @@
 // An exclusion of issuers over any binder.
 
-ghost use Rattle.std.specs.Prelude.{◌≡◌, ℕ, Bool, false};
+ghost use Rattle.std.specs.Prelude.{◌≡◌, ℕ, false};
 ghost use Rattle.binder.specs.Issuers.{listed, Adding};
 ghost use Rattle.binder.specs.Layers.{without};
 ghost use Rattle.binder.specs.Lawfuls.{without_lawful};

@@ -1,6 +1,6 @@
 // Up to 32 issuers, each with a flag, so that one is found in one step.
 
-ghost use Rattle.std.specs.Prelude.{◌≡◌, ℕ, ◌≤◌, Bool, false, length};
+ghost use Rattle.std.specs.Prelude.{◌≡◌, ℕ, ◌≤◌, false};
 ghost use Rattle.binder.specs.Issuers.{listed, number_of, Adding};
 
 use cause::Cause;

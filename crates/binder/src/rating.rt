@@ -1,6 +1,6 @@
 // Rating tables.
 
-ghost use Rattle.std.specs.Prelude.{◌≡◌, ◌↔◌, IsTrue};
+ghost use Rattle.std.specs.Prelude.{◌↔◌, IsTrue};
 ghost use Rattle.binder.specs.Rating.{limits_pass, LimitsInRange, Filling};
 
 use crate::fault::TableFault;

@@ -2,7 +2,7 @@
 
 ghost use Rattle.std.specs.Prelude.{◌≡◌, Bool, true, false};
 ghost use Rattle.grammar.specs.declared.Description.{Description as Described};
-ghost use Rattle.binder.specs.Meaning.{Meaning, Blank, in_range, single};
+ghost use Rattle.binder.specs.Meaning.{Blank, in_range, single};
 ghost use Rattle.binder.specs.Lawfuls.{single_lawful};
 
 use crate::Binder;
