@@ -1,6 +1,6 @@
 -- To believe: which issuers are listed, how many they are, and what listing one more does.
 
-use Rattle.std.specs.Prelude.{◌≡◌, ℕ, ◌+◌, ◌<◌, Bool, true, false, cond, ◌||◌, List, [], ◌∷◌, Result, MatchResult, ◌==◌, slice_index_or}
+use Rattle.std.specs.Prelude.{◌≡◌, ℕ, ◌<◌, Bool, true, false, ◌||◌, List, count_by, Result, MatchResult, ◌==◌, slice_index_or}
 use Rattle.cause.specs.declared.Cause.{Cause}
 use Rattle.cause.specs.declared.Cause.TheVariants.{ExclusionFull}
 
@@ -10,8 +10,7 @@ listed flags i = slice_index_or flags i false
 
 -- how many flags are up
 abbrev pub number_of : List Bool → ℕ
-number_of [] = 0
-number_of (b ∷ bs) = cond b 1 0 + number_of bs
+number_of flags = count_by (λ up. up) flags
 
 -- the set with an issuer
 abbrev pub with_issuer : ℕ → (ℕ → Bool) → ℕ → Bool

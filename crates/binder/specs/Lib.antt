@@ -2,6 +2,8 @@ pub mod Meaning
 pub mod Layers
 pub mod Issuers
 pub mod Switch
+pub mod Limit
+pub mod Share
 pub mod Rating
 pub mod Schedule
 pub mod Laws

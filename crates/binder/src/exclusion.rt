@@ -1,6 +1,6 @@
 // An exclusion of issuers over any binder.
 
-ghost use Rattle.std.specs.Prelude.{◌≡◌, ℕ, Bool, false};
+ghost use Rattle.std.specs.Prelude.{◌≡◌, ℕ, false};
 ghost use Rattle.binder.specs.Issuers.{listed, Adding};
 ghost use Rattle.binder.specs.Layers.{without};
 ghost use Rattle.binder.specs.Lawfuls.{without_lawful};
@@ -10,21 +10,25 @@ use crate::issuers::Issuers;
 use cause::Cause;
 use grammar::Description;
 
-#[derive(Drop)]
+#[derive(PartialEq, Eq, Debug, Drop)]
 pub struct Exclusion<B> {
-    below: B,
     issuers: Issuers,
+    below: B,
 }
 
 impl<B> Exclusion<B> {
+    // An exclusion of the issuers.
+    pub fn new(issuers: Issuers, below: B) -> Exclusion<B>
+        ensures { result ≡ record { issuers = issuers; below = below } }
+    {
+        Exclusion { issuers, below }
+    }
+
     // An exclusion of no issuer.
     pub fn over(below: B) -> Exclusion<B>
         ensures { (result.below ≡ below) × ((i : ℕ) → listed result.issuers.flags i ≡ false) }
     {
-        Exclusion {
-            below,
-            issuers: Issuers::none(),
-        }
+        Exclusion::new(Issuers::none(), below)
     }
 
     // Excludes an issuer. One that is listed already changes nothing; a new one past 32 is refused.
@@ -45,11 +49,7 @@ impl<B: Binder> Binder for Exclusion<B> {
     }
 
     fn admits(&self, number: u64, lot: Description) -> bool {
-        let listed = self.issuers.lists(lot.issuer);
-        if listed {
-            return false;
-        }
-        self.below.admits(number, lot)
+        !self.issuers.lists(lot.issuer) && self.below.admits(number, lot)
     }
 
     fn share(&self, number: u64, issuer: u16) -> u16 {

@@ -18,6 +18,8 @@ pub mod pair;
 mod ranges;
 pub mod rating;
 pub mod schedule;
+pub mod share;
+pub mod single;
 pub mod switch;
 
 pub trait Binder {

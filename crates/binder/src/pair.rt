@@ -6,27 +6,34 @@ ghost use Rattle.binder.specs.Switch.{Setting};
 ghost use Rattle.binder.specs.Lawfuls.{joined_lawful};
 
 use crate::Binder;
-use crate::switch::{Route, Switch};
+use crate::switch::Switch;
 use cause::Cause;
 use grammar::Description;
 
-#[derive(Drop)]
+#[derive(PartialEq, Eq, Debug, Drop)]
 pub struct Pair<A, B> {
+    switch: Switch,
     first: A,
     second: B,
-    switch: Switch,
 }
 
 impl<P, Q> Pair<P, Q> {
+    // A pair at a switch.
+    pub fn at(switch: Switch, first: P, second: Q) -> Pair<P, Q>
+        ensures { result ≡ record { switch = switch; first = first; second = second } }
+    {
+        Pair {
+            switch,
+            first,
+            second,
+        }
+    }
+
     // A pair at 16.
     pub fn new(first: P, second: Q) -> Pair<P, Q>
         ensures { (result.first ≡ first) × (result.second ≡ second) × (result.switch.at ≡ 16) }
     {
-        Pair {
-            first,
-            second,
-            switch: Switch::new(),
-        }
+        Pair::at(Switch::new(), first, second)
     }
 
     // Sets the switch. One over 16 is refused and changes nothing.
@@ -43,26 +50,28 @@ impl<P: Binder, Q: Binder> Binder for Pair<P, Q> {
     ghost lawful = { λ x. joined_lawful _ _ _ (P.Binder.lawful x.first) (Q.Binder.lawful x.second) };
 
     fn held(&self, number: u64) -> bool {
-        match self.switch.route(number) {
-            Route::First(n) => self.first.held(n),
-            Route::Second(n) => self.second.held(n),
-            Route::Neither => false,
-        }
+        self.switch
+            .ask(number, |n| self.first.held(n), |n| self.second.held(n))
+            .unwrap_or(false)
     }
 
     fn admits(&self, number: u64, lot: Description) -> bool {
-        match self.switch.route(number) {
-            Route::First(n) => self.first.admits(n, lot),
-            Route::Second(n) => self.second.admits(n, lot),
-            Route::Neither => false,
-        }
+        self.switch
+            .ask(
+                number,
+                |n| self.first.admits(n, lot),
+                |n| self.second.admits(n, lot),
+            )
+            .unwrap_or(false)
     }
 
     fn share(&self, number: u64, issuer: u16) -> u16 {
-        match self.switch.route(number) {
-            Route::First(n) => self.first.share(n, issuer),
-            Route::Second(n) => self.second.share(n, issuer),
-            Route::Neither => 0,
-        }
+        self.switch
+            .ask(
+                number,
+                |n| self.first.share(n, issuer),
+                |n| self.second.share(n, issuer),
+            )
+            .unwrap_or(0)
     }
 }

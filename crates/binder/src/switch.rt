@@ -1,19 +1,57 @@
 // Where a pair goes over from its first binder to its second.
 
-ghost use Rattle.std.specs.Prelude.{◌≡◌, ◌≤◌};
+ghost use Rattle.std.specs.Prelude.{◌≡◌, ◌<◌, ◌≤◌, ◌-◌};
 
-pub mod routes;
+use cause::Cause;
 
-#[derive(Clone, Copy)]
+// How many numbers a binder has at most.
+const NUMBERS: u64 = 16;
+
+#[derive(Clone, Copy, PartialEq, Eq, Debug)]
 pub struct Switch {
     at: u64,
     ghost within: { at ≤ 16 },
 }
 
-// Whose number a pair's number is, and which.
-#[derive(Clone, Copy)]
-pub enum Route {
-    First(u64),
-    Second(u64),
-    Neither,
+impl Switch {
+    ghost use Rattle.binder.specs.Switch.{Setting, Asked};
+
+    // At 16: every number is the first binder's.
+    pub fn new() -> Switch
+        ensures { result.at ≡ 16 }
+    {
+        Switch { at: NUMBERS }
+    }
+
+    // Sets the switch. One over 16 is refused and changes nothing.
+    pub fn set(&mut self, at: u64) -> Result<(), Cause>
+        ensures { Setting at self.old.at self.new.at result }
+    {
+        if at > NUMBERS {
+            return Err(Cause::SwitchLarge);
+        }
+        self.at = at;
+        Ok(())
+    }
+
+    // Asks the binder that a number belongs to, by the number that it has there. A number of 16 or
+    // more belongs to none.
+    pub fn ask<A, F: FnOnce(u64) -> A, G: FnOnce(u64) -> A>(
+        &self,
+        number: u64,
+        first: F,
+        second: G,
+    ) -> Option<A>
+        requires first { number < self.now.at → F.pre first number }
+        requires second { self.now.at ≤ number → number < 16 → G.pre second (number - self.now.at) }
+        ensures { Asked self.now.at number (F.post first) (G.post second) result }
+    {
+        if number < self.at {
+            Some(first(number))
+        } else if number < NUMBERS {
+            Some(second(number - self.at))
+        } else {
+            None
+        }
+    }
 }

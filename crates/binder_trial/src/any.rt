@@ -1,7 +1,7 @@
 // Binders of any kind, held against the same ones put together from their own types.
 
 use crate::schedules::schedule;
-use crate::tally::{Tally, lot};
+use crate::trials::{Trials, lot};
 use binder::Binder;
 use binder::exclusion::Exclusion;
 use binder::issuers::Issuers;
@@ -64,44 +64,44 @@ const MONTHS: [u16; 3] = [60, 120, 121];
 
 const ISSUERS: [u16; 4] = [0, 7, 9, 256];
 
-fn lots<A: Binder, B: Binder>(tally: &mut Tally, a: &A, b: &B, number: u64, class: u16) {
+fn lots<A: Binder, B: Binder>(trials: &mut Trials, a: &A, b: &B, number: u64, class: u16) {
     for rating in RATINGS {
         for months in MONTHS {
             for issuer in ISSUERS {
                 let asked = lot([class, rating, months, issuer]);
-                tally.note(a.admits(number, asked) == b.admits(number, asked));
+                trials.note(a.admits(number, asked) == b.admits(number, asked));
             }
         }
     }
 }
 
-fn same<A: Binder, B: Binder>(tally: &mut Tally, a: &A, b: &B) {
+fn same<A: Binder, B: Binder>(trials: &mut Trials, a: &A, b: &B) {
     for number in 0..19u64 {
-        tally.note(a.held(number) == b.held(number));
+        trials.note(a.held(number) == b.held(number));
         for issuer in ISSUERS {
-            tally.note(a.share(number, issuer) == b.share(number, issuer));
+            trials.note(a.share(number, issuer) == b.share(number, issuer));
         }
         for class in CLASSES {
-            lots(tally, a, b, number, class);
+            lots(trials, a, b, number, class);
         }
     }
 }
 
 pub fn agrees(rt: &HostRuntime) -> io::Result<()> {
-    let mut tally = Tally::new();
+    let mut trials = Trials::new();
     for switch in SWITCHES {
         let any = named(rt.alloc(), switch)?;
-        same(&mut tally, &any, &typed(switch));
+        same(&mut trials, &any, &typed(switch));
     }
     let any = named(rt.alloc(), 1)?;
-    tally.share(&any, 0, Some(2_500));
-    tally.share(&any, 1, Some(3_000));
-    tally.share(&any, 2, None);
-    tally.admits(&any, 0, [0, 10, 60, 0], true);
-    tally.admits(&any, 0, [0, 10, 60, 7], false);
-    tally.admits(&any, 0, [0, 10, 60, 9], true);
-    tally.admits(&any, 1, [0, 10, 120, 3], true);
-    tally.admits(&any, 1, [0, 10, 121, 3], false);
-    tally.admits(&any, 1, [0, 10, 120, 9], false);
-    tally.report(rt, "binders of any kind")
+    trials.share(&any, 0, Some(2_500));
+    trials.share(&any, 1, Some(3_000));
+    trials.share(&any, 2, None);
+    trials.admits(&any, 0, [0, 10, 60, 0], true);
+    trials.admits(&any, 0, [0, 10, 60, 7], false);
+    trials.admits(&any, 0, [0, 10, 60, 9], true);
+    trials.admits(&any, 1, [0, 10, 120, 3], true);
+    trials.admits(&any, 1, [0, 10, 121, 3], false);
+    trials.admits(&any, 1, [0, 10, 120, 9], false);
+    trials.report(rt, "binders of any kind")
 }

@@ -8,7 +8,7 @@ mod exclusions;
 mod pairs;
 mod schedules;
 mod tables;
-mod tally;
+mod trials;
 
 use std::io;
 

@@ -1,23 +1,19 @@
 // Rule schedules.
 
-use crate::tally::Tally;
+use crate::trials::Trials;
 use binder::Binder;
-use binder::fault::ScheduleFault;
 use binder::schedule::RuleSchedule;
 use std::io;
 
-// The number of a refusal, its place and its label; zeros where the schedule is loaded.
-pub fn load(schedule: &mut RuleSchedule, label: u8, share: u64, text: &[u8]) -> (u8, usize, u8) {
-    match schedule.load(label, share, text) {
-        Ok(()) => (0, 0, 0),
-        Err(
-            ScheduleFault {
-                cause,
-                place,
-                label,
-            },
-        ) => (cause.number(), place, label),
-    }
+// The number of a refusal, its place and its label.
+fn refusal(
+    schedule: &mut RuleSchedule,
+    label: u8,
+    share: u64,
+    text: &[u8],
+) -> Option<(u8, usize, u8)> {
+    let fault = schedule.load(label, share, text).err()?;
+    Some((fault.cause.number(), fault.place, fault.label))
 }
 
 // A text, a lot's class, rating, months and issuer, and whether the lot is admitted: the rules say yes
@@ -44,58 +40,57 @@ const LOTS: [(&[u8], [u16; 4], bool); 18] = [
 ];
 
 pub fn lots(rt: &HostRuntime) -> io::Result<()> {
-    let mut tally = Tally::new();
+    let mut trials = Trials::new();
     for (text, fields, want) in LOTS {
         let mut schedule = RuleSchedule::blank();
-        tally.admits(&schedule, 0, fields, false);
-        tally.share(&schedule, 0, Some(0));
-        tally.note(load(&mut schedule, 0, 3_000, text) == (0, 0, 0));
-        tally.admits(&schedule, 0, fields, want);
-        tally.admits(&schedule, 1, fields, false);
-        tally.share(&schedule, 0, Some(3_000));
-        tally.share(&schedule, 1, None);
+        trials.admits(&schedule, 0, fields, false);
+        trials.share(&schedule, 0, Some(0));
+        trials.note(schedule.load(0, 3_000, text).is_ok());
+        trials.admits(&schedule, 0, fields, want);
+        trials.admits(&schedule, 1, fields, false);
+        trials.share(&schedule, 0, Some(3_000));
+        trials.share(&schedule, 1, None);
     }
-    tally.report(rt, "lots of a schedule")
+    trials.report(rt, "lots of a schedule")
 }
 
 // A label, a share, a text, the refusal's number and place, and the share afterwards: a fault of the
 // text comes before the share.
-const LOADS: [(u8, u64, &[u8], u8, usize, u16); 12] = [
-    (0, 0, b"c=1", 0, 0, 0),
-    (255, 10_000, b"c=1", 0, 0, 10_000),
-    (1, 10_001, b"c=1", 10, 0, 2_500),
-    (2, u64::MAX, b"c=1", 10, 0, 2_500),
-    (3, 65_536, b"c=1", 10, 0, 2_500),
-    (4, 10_000, b"", 6, 0, 2_500),
-    (200, 10_000, b"r<01", 6, 3, 2_500),
-    (255, 10_001, b"r<01", 6, 3, 2_500),
-    (0, 10_001, b"m<65536", 7, 2, 2_500),
+const LOADS: [(u8, u64, &[u8], Option<(u8, usize)>, u16); 12] = [
+    (0, 0, b"c=1", None, 0),
+    (255, 10_000, b"c=1", None, 10_000),
+    (1, 10_001, b"c=1", Some((10, 0)), 2_500),
+    (2, u64::MAX, b"c=1", Some((10, 0)), 2_500),
+    (3, 65_536, b"c=1", Some((10, 0)), 2_500),
+    (4, 10_000, b"", Some((6, 0)), 2_500),
+    (200, 10_000, b"r<01", Some((6, 3)), 2_500),
+    (255, 10_001, b"r<01", Some((6, 3)), 2_500),
+    (0, 10_001, b"m<65536", Some((7, 2)), 2_500),
     (
         7,
         0,
         b"((((((((((((((((((c=1))))))))))))))))))",
-        8,
-        16,
+        Some((8, 16)),
         2_500,
     ),
-    (8, 0, b"c=1&", 6, 4, 2_500),
-    (9, 10_001, b"c=1&", 6, 4, 2_500),
+    (8, 0, b"c=1&", Some((6, 4)), 2_500),
+    (9, 10_001, b"c=1&", Some((6, 4)), 2_500),
 ];
 
 // What is loaded replaces the schedule, and what is refused leaves it as it was.
 pub fn loads(rt: &HostRuntime) -> io::Result<()> {
-    let mut tally = Tally::new();
-    for (label, share, text, cause, place, after) in LOADS {
+    let mut trials = Trials::new();
+    for (label, share, text, fault, after) in LOADS {
         let mut schedule = RuleSchedule::blank();
-        tally.note(load(&mut schedule, 77, 2_500, b"c=2") == (0, 0, 0));
-        let loaded = cause == 0;
-        let want = if loaded { 0 } else { label };
-        tally.note(load(&mut schedule, label, share, text) == (cause, place, want));
-        tally.share(&schedule, 0, Some(after));
-        tally.admits(&schedule, 0, [1, 1, 0, 0], loaded);
-        tally.admits(&schedule, 0, [2, 1, 0, 0], !loaded);
+        trials.note(schedule.load(77, 2_500, b"c=2").is_ok());
+        let want = fault.map(|(cause, place)| (cause, place, label));
+        trials.note(refusal(&mut schedule, label, share, text) == want);
+        let loaded = fault.is_none();
+        trials.share(&schedule, 0, Some(after));
+        trials.admits(&schedule, 0, [1, 1, 0, 0], loaded);
+        trials.admits(&schedule, 0, [2, 1, 0, 0], !loaded);
     }
-    tally.report(rt, "loads of a schedule")
+    trials.report(rt, "loads of a schedule")
 }
 
 // A schedule of a text and a share that are in order.

@@ -1,8 +1,7 @@
 // Rating tables.
 
-use crate::tally::Tally;
+use crate::trials::Trials;
 use binder::Binder;
-use binder::fault::TableFault;
 use binder::limit::ClassLimit;
 use binder::rating::RatingTable;
 use std::io;
@@ -38,12 +37,10 @@ const LIMITS: [ClassLimit; 8] = [
     },
 ];
 
-// The number of a refusal and its place; 0 and 0 where the table is loaded.
-fn load(table: &mut RatingTable, share: u64, limits: &[ClassLimit; 8]) -> (u8, usize) {
-    match table.load(share, limits) {
-        Ok(()) => (0, 0),
-        Err(TableFault { cause, place }) => (cause.number(), place),
-    }
+// The number of a refusal and its place.
+fn refusal(table: &mut RatingTable, share: u64, limits: &[ClassLimit; 8]) -> Option<(u8, usize)> {
+    let fault = table.load(share, limits).err()?;
+    Some((fault.cause.number(), fault.place))
 }
 
 // A table with the widest limits admits exactly the fields that a lot may have.
@@ -65,22 +62,22 @@ const LOTS: [([u16; 4], bool); 14] = [
 ];
 
 pub fn lots(rt: &HostRuntime) -> io::Result<()> {
-    let mut tally = Tally::new();
+    let mut trials = Trials::new();
     let mut table = RatingTable::blank();
     for (fields, _) in LOTS {
-        tally.admits(&table, 0, fields, false);
+        trials.admits(&table, 0, fields, false);
     }
-    tally.share(&table, 0, Some(0));
-    tally.note(load(&mut table, 10_000, &[OPEN; 8]) == (0, 0));
+    trials.share(&table, 0, Some(0));
+    trials.note(table.load(10_000, &[OPEN; 8]).is_ok());
     for (fields, want) in LOTS {
-        tally.admits(&table, 0, fields, want);
-        tally.admits(&table, 1, fields, false);
+        trials.admits(&table, 0, fields, want);
+        trials.admits(&table, 1, fields, false);
     }
-    tally.share(&table, 0, Some(10_000));
-    tally.share(&table, 1, None);
-    tally.share(&table, 16, None);
-    tally.share(&table, u64::MAX, None);
-    tally.report(rt, "lots of a table")
+    trials.share(&table, 0, Some(10_000));
+    trials.share(&table, 1, None);
+    trials.share(&table, 16, None);
+    trials.share(&table, u64::MAX, None);
+    trials.report(rt, "lots of a table")
 }
 
 const LIMITED: [([u16; 4], bool); 16] = [
@@ -103,53 +100,49 @@ const LIMITED: [([u16; 4], bool); 16] = [
 ];
 
 pub fn limits(rt: &HostRuntime) -> io::Result<()> {
-    let mut tally = Tally::new();
+    let mut trials = Trials::new();
     let mut table = RatingTable::blank();
-    tally.note(load(&mut table, 2_500, &LIMITS) == (0, 0));
+    trials.note(table.load(2_500, &LIMITS).is_ok());
     for (fields, want) in LIMITED {
-        tally.admits(&table, 0, fields, want);
+        trials.admits(&table, 0, fields, want);
     }
-    tally.share(&table, 0, Some(2_500));
-    tally.report(rt, "limits of a table")
+    trials.share(&table, 0, Some(2_500));
+    trials.report(rt, "limits of a table")
 }
 
 // A share, the limit of class 7, the number of the refusal, and the share afterwards.
-const LOADS: [(u64, u64, u64, u8, u16); 14] = [
-    (0, 0, 0, 0, 0),
-    (10_000, 22, 1_200, 0, 10_000),
-    (10_001, 22, 1_200, 10, 2_500),
-    (10_000, 23, 1_200, 10, 2_500),
-    (10_000, 22, 1_201, 10, 2_500),
-    (10_001, 23, 1_201, 10, 2_500),
-    (65_536, 0, 0, 10, 2_500),
-    (0, 256, 0, 10, 2_500),
-    (0, 0, 65_536, 10, 2_500),
-    (u64::MAX, 0, 0, 10, 2_500),
-    (0, u64::MAX, 0, 10, 2_500),
-    (0, 0, u64::MAX, 10, 2_500),
-    (9_999, 21, 1_199, 0, 9_999),
-    (1, 1, 1, 0, 1),
+const LOADS: [(u64, u64, u64, Option<u8>, u16); 14] = [
+    (0, 0, 0, None, 0),
+    (10_000, 22, 1_200, None, 10_000),
+    (10_001, 22, 1_200, Some(10), 2_500),
+    (10_000, 23, 1_200, Some(10), 2_500),
+    (10_000, 22, 1_201, Some(10), 2_500),
+    (10_001, 23, 1_201, Some(10), 2_500),
+    (65_536, 0, 0, Some(10), 2_500),
+    (0, 256, 0, Some(10), 2_500),
+    (0, 0, 65_536, Some(10), 2_500),
+    (u64::MAX, 0, 0, Some(10), 2_500),
+    (0, u64::MAX, 0, Some(10), 2_500),
+    (0, 0, u64::MAX, Some(10), 2_500),
+    (9_999, 21, 1_199, None, 9_999),
+    (1, 1, 1, None, 1),
 ];
 
 // What is loaded replaces the table, and what is refused leaves it as it was.
-fn reload(tally: &mut Tally, row: (u64, u64, u64, u8, u16)) {
-    let (share, worst, longest, cause, after) = row;
-    let mut table = RatingTable::blank();
-    tally.note(load(&mut table, 2_500, &LIMITS) == (0, 0));
-    let mut limits = [OPEN; 8];
-    limits[7] = ClassLimit { worst, longest };
-    tally.note(load(&mut table, share, &limits) == (cause, 0));
-    let loaded = cause == 0;
-    tally.share(&table, 0, Some(after));
-    tally.admits(&table, 0, [0, 22, 1200, 0], loaded);
-    tally.admits(&table, 0, [7, 22, 1200, 0], loaded && worst == 22);
-    tally.admits(&table, 0, [7, 21, 1199, 0], !loaded || worst > 20);
-}
-
 pub fn loads(rt: &HostRuntime) -> io::Result<()> {
-    let mut tally = Tally::new();
-    for row in LOADS {
-        reload(&mut tally, row);
+    let mut trials = Trials::new();
+    for (share, worst, longest, cause, after) in LOADS {
+        let mut table = RatingTable::blank();
+        trials.note(table.load(2_500, &LIMITS).is_ok());
+        let mut limits = [OPEN; 8];
+        limits[7] = ClassLimit { worst, longest };
+        let want = cause.map(|number| (number, 0));
+        trials.note(refusal(&mut table, share, &limits) == want);
+        let loaded = cause.is_none();
+        trials.share(&table, 0, Some(after));
+        trials.admits(&table, 0, [0, 22, 1200, 0], loaded);
+        trials.admits(&table, 0, [7, 22, 1200, 0], loaded && worst == 22);
+        trials.admits(&table, 0, [7, 21, 1199, 0], !loaded || worst > 20);
     }
-    tally.report(rt, "loads of a table")
+    trials.report(rt, "loads of a table")
 }

@@ -6,6 +6,7 @@ ghost use Rattle.std.specs.Prelude.{◌≡◌, IfOk};
 ghost use Rattle.binder.specs.Issuers.{listed};
 ghost use Rattle.binder.specs.Layers.{without, joined};
 ghost use Rattle.binder.specs.Meaning.{Meaning};
+ghost use Rattle.binder.specs.Switch.{Asked};
 ghost use Rattle.named.specs.Any.{any_meaning};
 ghost use Rattle.named.specs.Anys.{any_lawful};
 
@@ -13,7 +14,7 @@ use binder::Binder;
 use binder::issuers::Issuers;
 use binder::rating::RatingTable;
 use binder::schedule::RuleSchedule;
-use binder::switch::{Route, Switch};
+use binder::switch::Switch;
 use grammar::Description;
 use std::alloc::{AllocError, Global};
 
@@ -49,6 +50,20 @@ impl AnyBinder {
     }
 }
 
+// The binder of a pair that a number belongs to, and the number that it has there.
+fn side<'a>(
+    switch: &Switch,
+    first: &'a AnyBinder,
+    second: &'a AnyBinder,
+    number: u64,
+) -> Option<(&'a AnyBinder, u64)>
+    ensures { Asked switch.now.at number (λ n b. (b.0.now ≡ first.now) × (b.1 ≡ n)) (λ n b. (b.0.now ≡ second.now) × (b.1 ≡ n)) result }
+{
+    switch.ask(number, |n| (first, n), |n| (second, n))
+}
+
+// The types `Exclusion` and `Pair` of the crate binder would hand each question on, but a cycle of calls
+// through their methods gets no proof: so the list and the switch are asked here.
 impl Binder for AnyBinder {
     ghost meaning = { any_meaning };
 
@@ -59,10 +74,9 @@ impl Binder for AnyBinder {
             AnyBinder::Table(table) => table.held(number),
             AnyBinder::Schedule(schedule) => schedule.held(number),
             AnyBinder::Exclusion(_, below) => below.held(number),
-            AnyBinder::Pair(switch, first, second) => match switch.route(number) {
-                Route::First(n) => first.held(n),
-                Route::Second(n) => second.held(n),
-                Route::Neither => false,
+            AnyBinder::Pair(switch, first, second) => match side(switch, first, second, number) {
+                Some((binder, n)) => binder.held(n),
+                None => false,
             },
         }
     }
@@ -72,13 +86,11 @@ impl Binder for AnyBinder {
             AnyBinder::Table(table) => table.admits(number, lot),
             AnyBinder::Schedule(schedule) => schedule.admits(number, lot),
             AnyBinder::Exclusion(issuers, below) => {
-                let listed = issuers.lists(lot.issuer);
-                !listed && below.admits(number, lot)
+                !issuers.lists(lot.issuer) && below.admits(number, lot)
             }
-            AnyBinder::Pair(switch, first, second) => match switch.route(number) {
-                Route::First(n) => first.admits(n, lot),
-                Route::Second(n) => second.admits(n, lot),
-                Route::Neither => false,
+            AnyBinder::Pair(switch, first, second) => match side(switch, first, second, number) {
+                Some((binder, n)) => binder.admits(n, lot),
+                None => false,
             },
         }
     }
@@ -88,10 +100,9 @@ impl Binder for AnyBinder {
             AnyBinder::Table(table) => table.share(number, issuer),
             AnyBinder::Schedule(schedule) => schedule.share(number, issuer),
             AnyBinder::Exclusion(_, below) => below.share(number, issuer),
-            AnyBinder::Pair(switch, first, second) => match switch.route(number) {
-                Route::First(n) => first.share(n, issuer),
-                Route::Second(n) => second.share(n, issuer),
-                Route::Neither => 0,
+            AnyBinder::Pair(switch, first, second) => match side(switch, first, second, number) {
+                Some((binder, n)) => binder.share(n, issuer),
+                None => 0,
             },
         }
     }

@@ -1,33 +1,25 @@
-// How many trials there were, how many came out as expected, and which was the first that did not.
+// Trials of what a binder answers, counted.
 
 use binder::Binder;
 use cause::Cause;
 use grammar::Description;
 use std::io;
+use tally::Tally;
 
 #[derive(Clone, Copy)]
-pub struct Tally {
-    tried: u32,
-    right: u32,
-    wrong: u32,
+pub struct Trials {
+    tally: Tally,
 }
 
-impl Tally {
-    pub fn new() -> Tally {
-        Tally {
-            tried: 0,
-            right: 0,
-            wrong: 0,
+impl Trials {
+    pub fn new() -> Trials {
+        Trials {
+            tally: Tally::new(),
         }
     }
 
     pub fn note(&mut self, right: bool) {
-        self.tried = self.tried.saturating_add(1);
-        if right {
-            self.right = self.right.saturating_add(1);
-        } else if self.wrong == 0 {
-            self.wrong = self.tried;
-        }
+        self.tally.note(right);
     }
 
     // What a binder says of a lot under a number.
@@ -44,14 +36,8 @@ impl Tally {
     }
 
     pub fn report(&self, rt: &HostRuntime, what: &str) -> io::Result<()> {
-        let tried = self.tried;
-        let right = self.right;
-        println!(rt; "{what}: {tried} tried, {right} as expected")?;
-        if self.wrong > 0 {
-            let wrong = self.wrong;
-            println!(rt; "  the first that was not: {wrong}")?;
-        }
-        Ok(())
+        let tally = self.tally;
+        println!(rt; "{what}: {tally}")
     }
 }
 
@@ -66,10 +52,7 @@ pub fn lot(fields: [u16; 4]) -> Description {
     }
 }
 
-// The number of a refusal's cause, 0 if there was none.
-pub fn refusal(r: Result<(), Cause>) -> u8 {
-    match r {
-        Ok(()) => 0,
-        Err(cause) => cause.number(),
-    }
+// The number of the cause, if the call was refused.
+pub fn refusal(outcome: Result<(), Cause>) -> Option<u8> {
+    outcome.err().map(Cause::number)
 }
