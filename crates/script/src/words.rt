@@ -2,10 +2,6 @@
 
 ghost use Rattle.std.specs.Prelude.{◌≡◌, ℕ, ◌+◌, ◌<◌, ◌≤◌, length, MatchOption, MatchResult, ◌≢◌, slice_index};
 ghost use Rattle.script.specs.Words.{kind as kind_rule, Split, Cut, Ended};
-ghost use Rattle.script.specs.Numerals.{Decimal};
-
-use crate::bad::{BadLine, Expected};
-use crate::number::decimal;
 
 #[derive(Clone, Copy, PartialEq, Eq)]
 enum Kind {
@@ -18,9 +14,7 @@ fn kind_of(b: u8) -> Kind
     ensures { result ≡ kind_rule b }
 {
     match b {
-        b' ' => Kind::Blank,
-        b'\t' => Kind::Blank,
-        b'\r' => Kind::Blank,
+        b' ' | b'\t' | b'\r' => Kind::Blank,
         b'#' => Kind::Mark,
         _ => Kind::Plain,
     }
@@ -32,11 +26,10 @@ fn run(bytes: &[u8], of: Kind) -> usize
     ensures all { (i : ℕ) → i < result → kind_rule (slice_index bytes.now i) ≡ of }
     ensures stops { result < length bytes.now → kind_rule (slice_index bytes.now result) ≢ of }
 {
-    let mut n = 0;
-    while n < bytes.len() && kind_of(bytes[n]) == of {
-        n += 1;
-    }
-    n
+    bytes
+        .iter()
+        .position(|b| kind_of(*b) != of)
+        .unwrap_or(bytes.len())
 }
 
 // The longest front of a kind, and what follows it.
@@ -47,7 +40,7 @@ fn split(text: &str, of: Kind) -> (&str, &str)
 }
 
 // What is still to be read of a line.
-#[derive(Clone, Copy)]
+#[derive(Clone, Copy, PartialEq, Eq, Debug)]
 pub struct Words<'a> {
     rest: &'a str,
 }
