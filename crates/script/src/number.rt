@@ -24,6 +24,7 @@ pub fn decimal(word: &str) -> Option<u64>
 }
 
 // The byte that a word writes by one or two hexadecimal digits.
+#[tactic(auto, using(crate::proofs::Reading::two_digits))]
 pub fn hex_byte(word: &str) -> Option<u8>
     ensures { MatchOption result ((b : ℕ) → HexByte word.now b → ⊥) (λ b. HexByte word.now b) }
 {
