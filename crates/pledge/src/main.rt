@@ -8,7 +8,7 @@ use std::io::{BufRead, BufReader};
 use std::process::ExitCode;
 use std::{env, fmt, io};
 
-// Why a run stopped early.
+// Why a run stopped early. It is never printed itself, so it has no words of its own.
 #[derive(Drop)]
 enum Stop {
     // what standard error says already

@@ -24,6 +24,7 @@ impl Refusal {
     }
 }
 
+// By hand and not by thiserror, since only some refusals name a point.
 impl fmt::Display for Refusal {
     fn fmt<W: fmt::Write>(&self, f: &mut fmt::Formatter<W>) -> fmt::Result {
         write!(f, "refused {}", self.number())?;

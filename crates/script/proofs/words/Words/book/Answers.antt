@@ -1,4 +1,4 @@
-use Rattle.std.proofs.Common.{◌≡◌, ℕ, ◌<◌, [], ◌∷◌, Ok, Err, Result, is_ok, MatchResult, ap, sym, subst, arith}
+use Rattle.std.proofs.Common.{◌≡◌, ℕ, [], ◌∷◌, Ok, Err, Result, is_ok, MatchResult, ap, subst, arith}
 use Rattle.std.specs.Result.{OkIff}
 use Rattle.script.specs.Numerals.{Decimal}
 use Rattle.script.specs.Words.Worded.{none, more}

@@ -1,13 +1,10 @@
 use Rattle.std.proofs.Common.{sym, subst}
 use Rattle.std.proofs.lemmas.Option.{MatchOption-at_some}
-use Rattle.script.proofs.Lines.{Sofar, shorter, started, one_more, done}
+use Rattle.script.proofs.Lines.{Sofar, started, one_more, done}
 use Rattle.script.proofs.words.Words.page_bytes.Goals as goal
 
 pub loop-word-init : goal.loop-word-init
 loop-word-init c = subst (λ bs. Sofar c.args.self.now.rest.now bs c.args.self.now.rest.now) (sym c.new-bytes.ensures.items) (started _)
-
-pub loop-word-smaller : goal.loop-word-smaller
-loop-word-smaller c = shorter c.in-Some.ensures
 
 pub loop-word-preserved : goal.loop-word-preserved
 loop-word-preserved c =
