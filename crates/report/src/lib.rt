@@ -1,6 +1,5 @@
 // What came of a line, in words for the person who reads it.
 #![tactic(auto)]
 
-pub mod explain;
 pub mod outcome;
 pub mod reason;

@@ -5,45 +5,13 @@ ghost use Rattle.cause.specs.Numbers.{number as listed};
 ghost use Rattle.report.specs.Reasons.{cause_of};
 
 use crate::reason::Reason;
-use cause::Cause;
+use std::error::Error;
 use std::fmt;
 
-// A count with its noun, which takes an s unless there is one.
-#[derive(Clone, Copy)]
-pub struct Count {
-    pub of: usize,
-    pub noun: &'static str,
-}
-
-impl fmt::Display for Count {
-    fn fmt<W: fmt::Write>(&self, f: &mut fmt::Formatter<W>) -> fmt::Result {
-        let of = self.of;
-        let noun = self.noun;
-        let plural = if of == 1 { "" } else { "s" };
-        write!(f, "{of} {noun}{plural}")
-    }
-}
-
-// What a refusal has beside its number.
-#[derive(Clone, Copy)]
-pub enum At {
-    Nothing,
-    // the first point of a page at fault
-    Point(usize),
-}
-
-impl fmt::Display for At {
-    fn fmt<W: fmt::Write>(&self, f: &mut fmt::Formatter<W>) -> fmt::Result {
-        match self {
-            At::Nothing => Ok(()),
-            At::Point(point) => write!(f, " at point {point}"),
-        }
-    }
-}
-
-#[derive(Clone, Copy)]
+#[derive(Clone, Copy, PartialEq, Eq, Debug)]
 pub struct Refusal {
-    pub at: At,
+    // the first point at fault, of a refused page
+    pub point: Option<usize>,
     pub reason: Reason,
 }
 
@@ -56,39 +24,39 @@ impl Refusal {
     }
 }
 
+// By hand and not by thiserror, since only some refusals name a point.
 impl fmt::Display for Refusal {
     fn fmt<W: fmt::Write>(&self, f: &mut fmt::Formatter<W>) -> fmt::Result {
-        let number = self.number();
-        let at = self.at;
-        let reason = self.reason;
-        write!(f, "refused {number}{at}: {reason}")
+        write!(f, "refused {}", self.number())?;
+        if let Some(point) = self.point {
+            write!(f, " at point {point}")?;
+        }
+        write!(f, ": {}", self.reason)
     }
 }
 
-#[derive(Clone, Copy)]
+impl Error for Refusal {}
+
+#[derive(Clone, Copy, PartialEq, Eq, Debug)]
 pub enum Answer {
     Opened,
     Points(usize),
     Value(u64),
-    Refused(Refusal),
 }
 
 impl fmt::Display for Answer {
     fn fmt<W: fmt::Write>(&self, f: &mut fmt::Formatter<W>) -> fmt::Result {
-        match *self {
+        match self {
             Answer::Opened => f.write_str("opened"),
-            Answer::Points(of) => {
-                let count = Count { of, noun: "point" };
-                write!(f, "{count}")
-            }
+            Answer::Points(1) => f.write_str("1 point"),
+            Answer::Points(points) => write!(f, "{points} points"),
             Answer::Value(value) => write!(f, "collateral value {value}"),
-            Answer::Refused(refusal) => write!(f, "{refusal}"),
         }
     }
 }
 
 // A line by its first word and the place, class or number that it names.
-#[derive(Clone, Copy)]
+#[derive(Clone, Copy, PartialEq, Eq, Debug)]
 pub enum Subject {
     Book(u16),
     Page(u64),
@@ -105,16 +73,17 @@ impl fmt::Display for Subject {
     }
 }
 
-#[derive(Clone, Copy)]
+#[derive(Clone, Copy, PartialEq, Eq, Debug)]
 pub struct Outcome {
     pub subject: Subject,
-    pub answer: Answer,
+    pub answer: Result<Answer, Refusal>,
 }
 
 impl fmt::Display for Outcome {
     fn fmt<W: fmt::Write>(&self, f: &mut fmt::Formatter<W>) -> fmt::Result {
-        let subject = self.subject;
-        let answer = self.answer;
-        write!(f, "{subject}: {answer}")
+        match self.answer {
+            Ok(answer) => write!(f, "{}: {answer}", self.subject),
+            Err(refusal) => write!(f, "{}: {refusal}", self.subject),
+        }
     }
 }

@@ -7,23 +7,40 @@ ghost use Rattle.report.specs.Reasons.{cause_of};
 use cause::Cause;
 use curve::curve::page::PageFault;
 use curve::lot::Terms;
+use thiserror::Error;
 
-#[derive(Clone, Copy)]
+// Each with its words for the person who reads a refusal.
+#[derive(Clone, Copy, PartialEq, Eq, Debug, Error)]
 pub enum Reason {
+    #[error("{0}")]
     Plain(Cause),
+    #[error("page empty")]
     PageEmpty,
+    #[error("number of points not 1 to 16")]
     PointsOutside,
+    #[error("page length not 1 + 4 times the points")]
     LengthWrong,
+    #[error("first month not 0")]
     FirstMonth,
+    #[error("month not rising")]
     MonthFalling,
+    #[error("month over 1200")]
     MonthLate,
+    #[error("haircut falling")]
     HaircutFalling,
+    #[error("haircut over 10000")]
     HaircutLarge,
+    #[error("lot place over 63")]
     LotPlace,
+    #[error("issuer over 255")]
     IssuerLarge,
+    #[error("class over 7")]
     ClassLarge,
+    #[error("rating not 1 to 22")]
     RatingOutside,
+    #[error("months over 1200")]
     MonthsLarge,
+    #[error("value not 1 to 100000000000")]
     ValueOutside,
 }
 
@@ -71,17 +88,17 @@ fn shape(page: &[u8]) -> Reason
 {
     match page.first() {
         None => Reason::PageEmpty,
-        Some(n) if *n == 0 || *n > 16 => Reason::PointsOutside,
-        Some(_) => Reason::LengthWrong,
+        Some(1..=16) => Reason::LengthWrong,
+        Some(_) => Reason::PointsOutside,
     }
 }
 
-// The number at a byte and the next, the low byte first; 0 past the page's end.
-fn word(page: &[u8], at: usize) -> u16 {
-    match (page.get(at), page.get(at.saturating_add(1))) {
-        (Some(low), Some(high)) => u16::from_le_bytes([*low, *high]),
-        _ => 0,
-    }
+// The number at a place of a page, which has two bytes, the low one first; none past the page's end.
+// After the byte that counts the points, the months stand at the first places, the haircuts at the next.
+fn word(page: &[u8], place: usize) -> Option<u16> {
+    let (_, words) = page.split_first()?;
+    let (words, _) = words.as_chunks::<2>();
+    words.get(place).map(|bytes| u16::from_le_bytes(*bytes))
 }
 
 fn month(page: &[u8], point: usize) -> Reason
@@ -90,32 +107,27 @@ fn month(page: &[u8], point: usize) -> Reason
     if point == 0 {
         return Reason::FirstMonth;
     }
-    let at = point.saturating_mul(2).saturating_add(1);
-    if word(page, at) > 1200 && word(page, at) > word(page, at.saturating_sub(2)) {
-        Reason::MonthLate
-    } else {
-        Reason::MonthFalling
+    match (word(page, point - 1), word(page, point)) {
+        (Some(before), Some(month)) if month > before && month > 1200 => Reason::MonthLate,
+        _ => Reason::MonthFalling,
     }
 }
 
 fn haircut(page: &[u8], point: usize) -> Reason
     ensures { cause_of result ≡ PageHaircut }
 {
-    let count = match page.first() {
-        Some(n) => *n as usize,
-        None => 0,
-    };
-    let at = point
-        .saturating_add(count)
-        .saturating_mul(2)
-        .saturating_add(1);
-    if point > 0 && word(page, at) < word(page, at.saturating_sub(2)) {
-        Reason::HaircutFalling
-    } else {
-        Reason::HaircutLarge
+    if point == 0 {
+        return Reason::HaircutLarge;
+    }
+    let points = page.first().map_or(0, |points| usize::from(*points));
+    let place = point.saturating_add(points);
+    match (word(page, place - 1), word(page, place)) {
+        (Some(before), Some(haircut)) if haircut < before => Reason::HaircutFalling,
+        _ => Reason::HaircutLarge,
     }
 }
 
+// The first field that is outside its range; the value, if no other is.
 fn field(terms: &Terms) -> Reason
     ensures { cause_of result ≡ FieldOutside }
 {

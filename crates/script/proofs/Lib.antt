@@ -1,3 +1,3 @@
-mod Reading
+pub mod Reading
 mod Cutting
 mod Lines

@@ -29,19 +29,8 @@ impl<'a> Words<'a> {
         ensures { IfOk result (λ n. ((w : List ℕ) × Cut self.old.rest.now w self.new.rest.now × Decimal w n)) }
     {
         let expected = Expected::Number;
-        let Some(word) = self.next() else {
-            return Err(BadLine {
-                expected,
-                found: None,
-            });
-        };
-        match decimal(word) {
-            Some(n) => Ok(n),
-            None => Err(BadLine {
-                expected,
-                found: Some(word),
-            }),
-        }
+        let found = self.next();
+        found.and_then(decimal).ok_or(BadLine { expected, found })
     }
 
     // The next two words have to be the name of a field and its number.
@@ -56,101 +45,95 @@ impl<'a> Words<'a> {
     fn end(&mut self) -> Result<(), BadLine<'a>>
         ensures { OnOk result (Ended self.old.rest.now) }
     {
+        let expected = Expected::End;
         match self.next() {
             None => Ok(()),
-            found => Err(BadLine {
-                expected: Expected::End,
-                found,
-            }),
+            found => Err(BadLine { expected, found }),
         }
     }
-}
 
-// The bytes that the rest of a line spells.
-fn page_bytes<'a>(heap: Global, words: &mut Words<'a>) -> Result<Vec<u8>, Unread<'a>>
-    ensures { IfOk result (λ v. ((ws : List (List ℕ)) × Worded words.old.rest.now ws × Spelt ws v.items)) }
-{
-    let mut bytes = Vec::new(heap);
-    while let Some(word) = words.next() {
-        let Some(byte) = hex_byte(word) else {
-            return Err(Unread::Bad(BadLine {
-                expected: Expected::HexByte,
-                found: Some(word),
-            }));
+    // The bytes that the rest of the line spells.
+    fn page_bytes(&mut self, heap: Global) -> Result<Vec<u8>, Unread<'a>>
+        ensures { IfOk result (λ v. ((ws : List (List ℕ)) × Worded self.old.rest.now ws × Spelt ws v.items)) }
+    {
+        let expected = Expected::HexByte;
+        let mut bytes = Vec::new(heap);
+        while let Some(word) = self.next() {
+            let found = Some(word);
+            let byte = hex_byte(word).ok_or(BadLine { expected, found })?;
+            bytes.push(byte)?;
+        }
+        Ok(bytes)
+    }
+
+    // The fields of a lot, each after its name.
+    fn terms(&mut self) -> Result<Terms, BadLine<'a>>
+        ensures { IfOk result (λ t. Described self.old.rest.now t self.new.rest.now) }
+    {
+        Ok(Terms {
+            issuer: self.field("issuer")?,
+            class: self.field("class")?,
+            rating: self.field("rating")?,
+            months: self.field("months")?,
+            market: self.field("value")?,
+        })
+    }
+
+    // `book NUMBER`, after its first word.
+    fn book(&mut self) -> Result<Line, BadLine<'a>>
+        ensures { IfOk result (λ l. Follows (codes "book") self.old.rest.now l) }
+    {
+        let expected = Expected::BookNumber;
+        let mut ahead = *self;
+        let found = ahead.next();
+        let number = self.number()?;
+        self.end()?;
+        let number = u16::try_from(number).map_err(|_| BadLine { expected, found })?;
+        Ok(Line::Book(number))
+    }
+
+    // `page CLASS HEX HEX ...`, after its first word.
+    fn page(&mut self, heap: Global) -> Result<Line, Unread<'a>>
+        ensures { IfOk result (λ l. Follows (codes "page") self.old.rest.now l) }
+    {
+        let class = self.number()?;
+        let bytes = self.page_bytes(heap)?;
+        Ok(Line::Page(class, bytes))
+    }
+
+    // `add PLACE issuer I class C rating R months M value V`, after its first word.
+    fn add(&mut self) -> Result<Line, BadLine<'a>>
+        ensures { IfOk result (λ l. Follows (codes "add") self.old.rest.now l) }
+    {
+        let place = self.number()?;
+        let terms = self.terms()?;
+        self.end()?;
+        Ok(Line::Add(place, terms))
+    }
+
+    // What a line says, from its first word on.
+    fn after(&mut self, first: &'a str, heap: Global) -> Result<Line, Unread<'a>>
+        ensures { IfOk result (λ l. Follows first.now self.old.rest.now l) }
+    {
+        let expected = Expected::Order;
+        let found = Some(first);
+        match first {
+            "book" => Ok(self.book()?),
+            "page" => self.page(heap),
+            "add" => Ok(self.add()?),
+            _ => Err(Unread::Bad(BadLine { expected, found })),
+        }
+    }
+
+    // What the rest of a line says; nothing, if it has no word.
+    fn line(&mut self, heap: Global) -> Result<Option<Line>, Unread<'a>>
+        ensures { IfOk result (λ o. MatchOption o (Worded self.old.rest.now []) (λ l. ((ws : List (List ℕ)) × Worded self.old.rest.now ws × Says ws l))) }
+    {
+        let Some(first) = self.next() else {
+            return Ok(None);
         };
-        bytes.push(byte)?;
-    }
-    Ok(bytes)
-}
-
-// The fields of a lot, each after its name.
-fn terms<'a>(words: &mut Words<'a>) -> Result<Terms, BadLine<'a>>
-    ensures { IfOk result (λ t. Described words.old.rest.now t words.new.rest.now) }
-{
-    let issuer = words.field("issuer")?;
-    let class = words.field("class")?;
-    let rating = words.field("rating")?;
-    let months = words.field("months")?;
-    let market = words.field("value")?;
-    Ok(Terms {
-        issuer,
-        class,
-        rating,
-        months,
-        market,
-    })
-}
-
-// `book NUMBER`, after its first word.
-fn book<'a>(words: &mut Words<'a>) -> Result<Line, Unread<'a>>
-    ensures { IfOk result (λ l. Follows (codes "book") words.old.rest.now l) }
-{
-    let at = *words;
-    let number = words.number()?;
-    words.end()?;
-    match u16::try_from(number) {
-        Ok(number) => Ok(Line::Book(number)),
-        Err(_) => {
-            let mut words = at;
-            Err(Unread::Bad(BadLine {
-                expected: Expected::BookNumber,
-                found: words.next(),
-            }))
-        }
-    }
-}
-
-// `page CLASS HEX HEX ...`, after its first word.
-fn page<'a>(heap: Global, words: &mut Words<'a>) -> Result<Line, Unread<'a>>
-    ensures { IfOk result (λ l. Follows (codes "page") words.old.rest.now l) }
-{
-    let class = words.number()?;
-    let bytes = page_bytes(heap, words)?;
-    Ok(Line::Page(class, bytes))
-}
-
-// `add PLACE issuer I class C rating R months M value V`, after its first word.
-fn add<'a>(words: &mut Words<'a>) -> Result<Line, Unread<'a>>
-    ensures { IfOk result (λ l. Follows (codes "add") words.old.rest.now l) }
-{
-    let place = words.number()?;
-    let terms = terms(words)?;
-    words.end()?;
-    Ok(Line::Add(place, terms))
-}
-
-// What a line says, from its first word on.
-fn line<'a>(heap: Global, first: &'a str, words: &mut Words<'a>) -> Result<Line, Unread<'a>>
-    ensures { IfOk result (λ l. Follows first.now words.old.rest.now l) }
-{
-    match first {
-        "book" => book(words),
-        "page" => page(heap, words),
-        "add" => add(words),
-        _ => Err(Unread::Bad(BadLine {
-            expected: Expected::Order,
-            found: Some(first),
-        })),
+        let line = self.after(first, heap)?;
+        Ok(Some(line))
     }
 }
 
@@ -158,10 +141,5 @@ fn line<'a>(heap: Global, first: &'a str, words: &mut Words<'a>) -> Result<Line,
 pub fn read<'a>(heap: Global, text: &'a str) -> Result<Option<Line>, Unread<'a>>
     ensures { IfOk result (λ o. MatchOption o (Worded text.now []) (λ l. ((ws : List (List ℕ)) × Worded text.now ws × Says ws l))) }
 {
-    let mut words = Words::new(text);
-    let Some(first) = words.next() else {
-        return Ok(None);
-    };
-    let line = line(heap, first, &mut words)?;
-    Ok(Some(line))
+    Words::new(text).line(heap)
 }

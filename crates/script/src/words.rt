@@ -1,11 +1,7 @@
 // A line is cut into its words in turn; nothing of it is copied.
 
 ghost use Rattle.std.specs.Prelude.{◌≡◌, ℕ, ◌+◌, ◌<◌, ◌≤◌, length, MatchOption, MatchResult, ◌≢◌, slice_index};
-ghost use Rattle.script.specs.Words.{kind as kind_rule, Split, Cut, Ended};
-ghost use Rattle.script.specs.Numerals.{Decimal};
-
-use crate::bad::{BadLine, Expected};
-use crate::number::decimal;
+ghost use Rattle.script.specs.Words.{kind, Split, Cut, Ended};
 
 #[derive(Clone, Copy, PartialEq, Eq)]
 enum Kind {
@@ -14,29 +10,29 @@ enum Kind {
     Plain,
 }
 
-fn kind_of(b: u8) -> Kind
-    ensures { result ≡ kind_rule b }
-{
-    match b {
-        b' ' => Kind::Blank,
-        b'\t' => Kind::Blank,
-        b'\r' => Kind::Blank,
-        b'#' => Kind::Mark,
-        _ => Kind::Plain,
+impl Kind {
+    fn of(byte: u8) -> Kind
+        ensures { result ≡ kind byte }
+    {
+        match byte {
+            b' ' | b'\t' | b'\r' => Kind::Blank,
+            b'#' => Kind::Mark,
+            _ => Kind::Plain,
+        }
     }
 }
 
-// How many bytes at the front are of a kind.
+// How many bytes at the front are of a kind. By bytes: std's lemmas on texts know one char as a pattern and no
+// set of them, and split_ascii_whitespace takes a form feed for a blank and keeps no rest.
 fn run(bytes: &[u8], of: Kind) -> usize
     ensures within { result ≤ length bytes.now }
-    ensures all { (i : ℕ) → i < result → kind_rule (slice_index bytes.now i) ≡ of }
-    ensures stops { result < length bytes.now → kind_rule (slice_index bytes.now result) ≢ of }
+    ensures all { (i : ℕ) → i < result → kind (slice_index bytes.now i) ≡ of }
+    ensures stops { result < length bytes.now → kind (slice_index bytes.now result) ≢ of }
 {
-    let mut n = 0;
-    while n < bytes.len() && kind_of(bytes[n]) == of {
-        n += 1;
-    }
-    n
+    bytes
+        .iter()
+        .position(|b| Kind::of(*b) != of)
+        .unwrap_or(bytes.len())
 }
 
 // The longest front of a kind, and what follows it.
@@ -46,8 +42,8 @@ fn split(text: &str, of: Kind) -> (&str, &str)
     text.split_at(run(text.as_bytes(), of))
 }
 
-// What is still to be read of a line.
-#[derive(Clone, Copy)]
+// What is still to be read of a line. A cursor and no Iterator, since the rest after a word has to stay in reach.
+#[derive(Clone, Copy, PartialEq, Eq, Debug)]
 pub struct Words<'a> {
     rest: &'a str,
 }

@@ -1,21 +1,32 @@
 // Lines that are no lines of the format: what is said of each, and that nothing of it happens.
 #![tactic(auto)]
 
-use script::bad::Unread;
+use script::bad::{BadLine, Unread};
 use session::state::Session;
 use std::io;
+
+// Plays a line and prints its outcome; or gives back what is bad about it.
+fn try_line<'a>(
+    rt: &HostRuntime,
+    session: &mut Session,
+    line: &'a str,
+) -> io::Result<Option<BadLine<'a>>> {
+    match session.play(rt.alloc(), line) {
+        Ok(Some(outcome)) => println!(rt; "  {outcome}")?,
+        Ok(None) => {}
+        Err(Unread::Bad(bad)) => return Ok(Some(bad)),
+        Err(Unread::Memory(error)) => return Err(io::Error::from(error)),
+    }
+    Ok(None)
+}
 
 // Plays a text up to its first bad line, and prints what is said of that, or of the last line.
 fn try_text(rt: &HostRuntime, text: &str) -> io::Result<()> {
     let mut session = Session::new();
-    let mut number: u64 = 0;
-    for line in text.lines() {
-        number = number.saturating_add(1);
-        match session.play(rt.alloc(), line) {
-            Ok(Some(outcome)) => println!(rt; "  {outcome}")?,
-            Ok(None) => {}
-            Err(Unread::Bad(bad)) => return println!(rt; "  line {number}: {bad}"),
-            Err(Unread::Memory) => return Err(io::Error::from(io::ErrorKind::OutOfMemory)),
+    for (before, line) in text.lines().enumerate() {
+        if let Some(bad) = try_line(rt, &mut session, line)? {
+            let number = before.saturating_add(1);
+            return println!(rt; "  line {number}: {bad}");
         }
     }
     Ok(())
@@ -34,11 +45,8 @@ fn try_again(rt: &HostRuntime) -> io::Result<()> {
         "page 0 01 00 00 10 27",
         "add 1 issuer 1 class 0 rating 1 months 0 value 1",
     ] {
-        match session.play(rt.alloc(), line) {
-            Ok(Some(outcome)) => println!(rt; "  {outcome}")?,
-            Ok(None) => {}
-            Err(Unread::Bad(bad)) => println!(rt; "  bad: {bad}")?,
-            Err(Unread::Memory) => return Err(io::Error::from(io::ErrorKind::OutOfMemory)),
+        if let Some(bad) = try_line(rt, &mut session, line)? {
+            println!(rt; "  bad: {bad}")?;
         }
     }
     Ok(())

@@ -1,46 +1,56 @@
--- The outcome of a line, from the answer that its call gave.
+-- The outcome of an order, from how far it moves the day on and the answer that it gave.
 
-use Rattle.std.proofs.Common.{◌≡◌, ℕ, List, vec_items, Vec, sym, subst}
-use Rattle.cause.specs.declared.Cause.{Cause}
+use Rattle.std.proofs.Common.{◌≡◌, ℕ, List, Ok, Err, Result, vec_items, Vec, None, MatchResult, sym, subst}
 use Rattle.curve.specs.Card.{Loaded, Unloaded}
 use Rattle.curve.specs.declared.card.CardFault.{CardFault}
 use Rattle.curve.specs.declared.lot.Lot.{Lot}
 use Rattle.curve.specs.declared.lot.Terms.{Terms}
 use Rattle.std.specs.declared.alloc.Global.{Global}
-use Rattle.session.specs.Adding.{Added, Unadded}
 use Rattle.report.specs.Reasons.{cause_of}
-use Rattle.session.specs.Playing.{Names, Loads, Calls, Plays, curves}
-use Rattle.session.specs.Playing.Plays.{page, no_page, add, no_add}
-use Rattle.script.specs.declared.line.Line.{Line}
-use Rattle.script.specs.declared.line.Line.TheVariants.{Page, Add}
 use Rattle.report.specs.declared.outcome.Answer.{Answer}
-use Rattle.report.specs.declared.outcome.Answer.TheVariants.{Points, Value, Refused}
-use Rattle.report.specs.declared.outcome.At.TheVariants.{Nothing}
+use Rattle.report.specs.declared.outcome.Answer.TheVariants.{Opened, Points, Value}
 use Rattle.report.specs.declared.outcome.Refusal.{Refusal}
 use Rattle.report.specs.declared.outcome.Subject.{Subject}
-use Rattle.report.specs.declared.outcome.Subject.TheVariants.{Page as OfPage, Add as OfAdd}
+use Rattle.report.specs.declared.outcome.Subject.TheVariants.{Book as OfBook, Page as OfPage, Add as OfAdd}
+use Rattle.script.specs.declared.line.Line.{Line}
+use Rattle.script.specs.declared.line.Line.TheVariants.{Book, Page, Add}
+use Rattle.session.specs.Adding.{Added, Unadded}
+use Rattle.session.specs.Refusing.{Names}
+use Rattle.session.specs.Playing.{Moves, Plays, curves}
+use Rattle.session.specs.Playing.Plays.{book, page, no_page, add, no_add}
 use Rattle.session.specs.declared.state.Session.{Session}
+use Rattle.session.specs.declared.state.Stage.{Stage}
 
-module _ (before after : Session) where
-  abbrev With : Line → Subject → Answer → Type 0
+module _ (before after : Session) (l : Line) (s : Stage) (moves : Moves before.stage l s) (stage : after.stage ≡ s) where
+  abbrev With : Line → Subject → Result Answer Refusal → Type 0
   With l s a = Plays before after l (record { subject = s; answer = a })
 
-  pub loaded : (class n : ℕ) (v : Vec ℕ Global) (bytes : List ℕ) (a : Answer) → a ≡ Points n → bytes ≡ vec_items v → Loads before after
-      → Loaded bytes class (curves before) (curves after) n → With (Page class v) (OfPage class) a
-  loaded class n v bytes a e is l h =
-      subst (With (Page class v) (OfPage class)) (sym e) (page l (subst (λ bs. Loaded bs class (curves before) (curves after) n) is h))
+  moved : (k : Line) → l ≡ k → Moves before.stage k after.stage
+  moved k is = subst (Moves before.stage k) (sym stage) (subst (λ l. Moves before.stage l s) is moves)
 
-  pub unloaded : (class : ℕ) (v : Vec ℕ Global) (bytes : List ℕ) (a : Answer) (r : Refusal) (f : CardFault) → a ≡ Refused r → bytes ≡ vec_items v → Loads before after
-      → Unloaded bytes class f → Names r f → after.card ≡ before.card → With (Page class v) (OfPage class) a
-  unloaded class v bytes a r f e is l h n same =
-      subst (With (Page class v) (OfPage class)) (sym e) (no_page f l (subst (λ bs. Unloaded bs class f) is h) n same)
+  pub opened : (n : ℕ) → l ≡ Book n → after.card ≡ before.card → after.taken ≡ before.taken → With l (OfBook n) (Ok Opened)
+  opened n is card taken = subst (λ l. With l (OfBook n) (Ok Opened)) (sym is) (book (record { moves = moved _ is; card = card; taken = taken }))
 
-  pub added : (place : ℕ) (t : Terms) (l : Lot) (a : Answer) → a ≡ Value l.worth → Calls before after
-      → Added before.taken after.taken (curves before) place t l → With (Add place t) (OfAdd place) a
-  added place t l a e c h = subst (With (Add place t) (OfAdd place)) (sym e) (add c h)
+  pub paged : (class : ℕ) (v : Vec ℕ Global) (bytes : List ℕ) (r : Result Answer Refusal) → l ≡ Page class v → bytes ≡ vec_items v → after.taken ≡ before.taken
+      → MatchResult r (λ a. (n : ℕ) × (a ≡ Points n) × Loaded bytes class (curves before) (curves after) n)
+      (λ r. (f : CardFault) × Unloaded bytes class f × Names r f × (after.card ≡ before.card))
+      → With l (OfPage class) r
+  paged class v bytes r is held taken cases = subst (λ l. With l (OfPage class) r) (sym is) (by r cases)
+    where
+      by : (r : Result Answer Refusal) → MatchResult r (λ a. (n : ℕ) × (a ≡ Points n) × Loaded bytes class (curves before) (curves after) n)
+          (λ r. (f : CardFault) × Unloaded bytes class f × Names r f × (after.card ≡ before.card))
+          → With (Page class v) (OfPage class) r
+      by (Ok a) h = subst (λ a. With (Page class v) (OfPage class) (Ok a)) (sym h.1) (page (record { moves = moved _ is; taken = taken }) (subst (λ bs. Loaded bs class (curves before) (curves after) h.0) held h.2))
+      by (Err r) h = no_page h.0 (record { moves = moved _ is; taken = taken }) (subst (λ bs. Unloaded bs class h.0) held h.1) h.2 h.3
 
-  pub unadded : (place : ℕ) (t : Terms) (k : Cause) (a : Answer) (r : Refusal) → a ≡ Refused r → Calls before after
-      → Unadded before.taken (curves before) place t k → cause_of r.reason ≡ k → r.at ≡ Nothing → after.taken ≡ before.taken
-      → With (Add place t) (OfAdd place) a
-  unadded place t k a r e c h is at same =
-      subst (With (Add place t) (OfAdd place)) (sym e) (no_add c (subst (Unadded before.taken (curves before) place t) (sym is) h) at same)
+  pub called : (place : ℕ) (t : Terms) (r : Result Answer Refusal) → l ≡ Add place t → after.card ≡ before.card
+      → MatchResult r (λ a. (o : Lot) × (a ≡ Value o.worth) × Added before.taken after.taken (curves before) place t o)
+      (λ r. Unadded before.taken (curves before) place t (cause_of r.reason) × (r.point ≡ None) × (after.taken ≡ before.taken))
+      → With l (OfAdd place) r
+  called place t r is card cases = subst (λ l. With l (OfAdd place) r) (sym is) (by r cases)
+    where
+      by : (r : Result Answer Refusal) → MatchResult r (λ a. (o : Lot) × (a ≡ Value o.worth) × Added before.taken after.taken (curves before) place t o)
+          (λ r. Unadded before.taken (curves before) place t (cause_of r.reason) × (r.point ≡ None) × (after.taken ≡ before.taken))
+          → With (Add place t) (OfAdd place) r
+      by (Ok a) h = subst (λ a. With (Add place t) (OfAdd place) (Ok a)) (sym h.1) (add (record { moves = moved _ is; card = card }) h.2)
+      by (Err r) h = no_add (record { moves = moved _ is; card = card }) h.0 h.1 h.2

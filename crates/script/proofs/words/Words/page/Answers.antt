@@ -1,7 +1,7 @@
 use Rattle.std.proofs.Common.{◌∷◌}
 use Rattle.script.specs.Words.Worded.{more}
 use Rattle.script.specs.Says.Says.{page}
-use Rattle.script.proofs.read.page.Goals as goal
+use Rattle.script.proofs.words.Words.page.Goals as goal
 
 pub returns : goal.returns
 returns c =

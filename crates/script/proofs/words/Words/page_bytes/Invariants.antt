@@ -1,9 +1,9 @@
 use Rattle.std.proofs.Common.{length, vec_items}
 use Rattle.script.proofs.Lines.{Sofar}
-use Rattle.script.proofs.read.page_bytes.Given as goal
+use Rattle.script.proofs.words.Words.page_bytes.Given as goal
 
 abbrev pub invariant-loop-word : goal.invariant-loop-word
-invariant-loop-word l = Sofar l.initial.words.rest.now (vec_items l.bytes) l.words.rest.now
+invariant-loop-word l = Sofar l.initial.self.rest.now (vec_items l.bytes) l.self.rest.now
 
 abbrev pub decreases-loop-word : goal.decreases-loop-word
-decreases-loop-word l = length l.words.rest.now
+decreases-loop-word l = length l.self.rest.now
