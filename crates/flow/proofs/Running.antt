@@ -6,8 +6,9 @@ use Rattle.network.specs.Flow.{Net, Sound, Flow}
 use Rattle.network.specs.Round.{Rounds}
 use Rattle.network.specs.Round.Rounds.{none, more}
 use Rattle.network.proofs.Cut.{max_min}
+use Rattle.network.proofs.Duality.{zero_flow}
 use Rattle.network.proofs.Rounds.{rounds_few}
-use Rattle.network.proofs.Same.{same_refl, same_rounds}
+use Rattle.network.proofs.Same.{same_refl, same_flow}
 use Rattle.flow.specs.Search.{Searched}
 use Rattle.flow.specs.Blocking.{Marks, Filled}
 use Rattle.flow.specs.Solved.{Solved}
@@ -20,8 +21,8 @@ pub record Running (N : Net) (f₀ f mark : ℕ → ℕ) (k : ℕ) : Type 0 wher
   pub searched : Searched N f mark
   pub rounds : Rounds N k f₀ f
 
-pub running_none : {N : Net} {f mark : ℕ → ℕ} → Flow N f → Searched N f mark → Running N f f mark 0
-running_none q n = record { start = q; flows = q; searched = n; rounds = none (λ k h. refl) }
+pub running_none : {N : Net} {f₀ f mark : ℕ → ℕ} → Flow N f₀ → Agree N.arcs f₀ f → Searched N f mark → Running N f₀ f mark 0
+running_none {N} {f₀} {f} q e n = record { start = q; flows = same_flow N N (same_refl N) f₀ f e q; searched = n; rounds = none e }
 
 module _ {N : Net} {f₀ f mark : ℕ → ℕ} {k : ℕ} (s : Sound N) (p : Running N f₀ f mark k) where
   pub running_marks : Marks N mark
@@ -46,13 +47,6 @@ module _ {N : Net} {f₀ f mark : ℕ → ℕ} {k : ℕ} (s : Sound N) (p : Runn
       let m = max_min N f mark s p.flows l z in
       record { rounds = p.rounds; few = running_few; maximum = m.0; reached = l; minimum = m.1; equal = m.2 }
 
--- a chain counts by what its first flow sends along the arcs
-pub solved_from : {N : Net} {f g f' mark : ℕ → ℕ} {r : ℕ} → Agree N.arcs g f → Solved N g f' mark r → Solved N f f' mark r
-solved_from {N} {f} {g} {f'} {mark} {r} h s = record {
-  rounds = same_rounds N N (same_refl N) r g f f' f' h (λ k l. refl) s.rounds;
-  few = s.few;
-  maximum = s.maximum;
-  reached = s.reached;
-  minimum = s.minimum;
-  equal = s.equal;
-}
+-- nothing sent is a flow
+pub none_flows : (N : Net) → Flow N (λ _. 0)
+none_flows N = zero_flow N (λ _. 0) (λ k h. refl)

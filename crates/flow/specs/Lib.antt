@@ -1,5 +1,6 @@
 pub mod Lists
 pub mod Lawful
+pub mod Memory
 pub mod Search
 pub mod Blocking
 pub mod Solved

@@ -13,9 +13,12 @@
 mod block;
 mod interface;
 mod layers;
+mod memory;
+mod residual;
 mod rounds;
 mod stored;
 
 pub use interface::Network;
+pub use memory::Memory;
 pub use rounds::{Refusal, maximize, maximize_from_zero, reached};
 pub use stored::{ArcList, MAX_ARCS, MAX_ENDS, MAX_NODES, StoredNetwork, Unfit};

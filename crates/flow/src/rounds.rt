@@ -1,13 +1,16 @@
 //! The rounds, and the solver.
 
-ghost use Rattle.std.specs.Prelude.{◌≡◌, ℕ, ◌<◌, ◌≤◌, List, length, replicate};
+ghost use Rattle.std.specs.Prelude.{◌≡◌, ℕ, length};
+ghost use Rattle.network.specs.Sums.{Agree};
 ghost use Rattle.network.specs.Flow.{Flow};
 ghost use Rattle.flow.specs.Lists.{at};
-ghost use Rattle.flow.specs.Solved.{Sizes, Solved, Checked, Outcome, marked};
+ghost use Rattle.flow.specs.Memory.{Fits, SameLists};
+ghost use Rattle.flow.specs.Solved.{Solved, Checked, Outcome, marked};
 
 use crate::block::block;
 use crate::interface::Network;
-use crate::layers::layers;
+use crate::memory::Memory;
+use crate::residual::Residual;
 
 /// Whether the node `v` has a mark.
 pub fn reached(mark: &[u32], v: usize) -> bool
@@ -16,127 +19,97 @@ pub fn reached(mark: &[u32], v: usize) -> bool
     v < mark.len() && mark[v] != 0
 }
 
+impl Memory<'_> {
+    // The same of the marks here.
+    fn reached(&self, v: usize) -> bool
+        ensures { result ≡ marked (at self.now.mark.now) v }
+    {
+        reached(self.mark, v)
+    }
+}
+
 // Nothing sent along any arc.
 pub(crate) fn clear(flow: &mut [u64])
-    ensures { flow.new ≡ replicate (length flow.old) 0 }
+    ensures { (k : ℕ) → at flow.new k ≡ 0 }
 {
     flow.fill(0);
 }
 
-// Rounds of layers and a flow that blocks them, until the sink is out of reach. Returns how many.
-fn run<G: Network>(
-    network: &G,
-    flow: &mut [u64],
-    mark: &mut [u32],
-    queue: &mut [u32],
-    cursor: &mut [u32],
-    path: &mut [u32],
-) -> usize
-    requires sizes { Sizes (G.net network.now) (length flow.old) (length mark.old) (length queue.old) (length cursor.old) (length path.old) }
-    requires flows { Flow (G.net network.now) (at flow.old) }
-    ensures { Solved (G.net network.now) (at flow.old) (at flow.new) (at mark.new) result }
+// Rounds of layers and a flow that blocks them, from the flow `start`, which `flow` holds, until the sink is out of reach. Returns how many.
+fn run<G: Network>(network: &G, flow: &mut [u64], memory: &mut Memory) -> usize
+    ghost start: { ℕ → ℕ }
+    requires whole { length flow.old ≡ (G.net network.now).arcs }
+    requires fits { Fits (G.net network.now) memory.old }
+    requires flows { Flow (G.net network.now) start }
+    requires starts { Agree (G.net network.now).arcs start (at flow.old) }
+    ensures same { SameLists memory.old memory.new }
+    ensures solved { Solved (G.net network.now) start (at flow.new) (at memory.new.mark.now) result }
 {
     let t = network.sink();
-    layers(network, flow, mark, queue);
+    Residual { network, flow }.layers(memory);
     let mut rounds = 0;
-    while reached(mark, t) {
-        block(network, flow, mark, cursor, path, queue);
-        layers(network, flow, mark, queue);
+    while memory.reached(t) {
+        block(network, flow, memory);
+        Residual { network, flow }.layers(memory);
         rounds += 1;
     }
     rounds
 }
 
-// From the initial flow.
-fn solve<G: Network>(
-    network: &G,
-    flow: &mut [u64],
-    mark: &mut [u32],
-    queue: &mut [u32],
-    cursor: &mut [u32],
-    path: &mut [u32],
-) -> usize
-    requires { Sizes (G.net network.now) (length flow.old) (length mark.old) (length queue.old) (length cursor.old) (length path.old) }
-    ensures { Solved (G.net network.now) (G.initial network.now) (at flow.new) (at mark.new) result }
-{
-    network.load(flow);
-    run(network, flow, mark, queue, cursor, path)
-}
-
-// From no flow at all.
-fn solve_anew<G: Network>(
-    network: &G,
-    flow: &mut [u64],
-    mark: &mut [u32],
-    queue: &mut [u32],
-    cursor: &mut [u32],
-    path: &mut [u32],
-) -> usize
-    requires { Sizes (G.net network.now) (length flow.old) (length mark.old) (length queue.old) (length cursor.old) (length path.old) }
-    ensures { Solved (G.net network.now) (λ _. 0) (at flow.new) (at mark.new) result }
-{
-    clear(flow);
-    run(network, flow, mark, queue, cursor, path)
-}
-
 /// Why the solver does not run: `flow` has not one place for each arc, or some of the memory has fewer places than there are nodes.
-#[derive(Clone, Copy, Drop)]
+#[derive(Clone, Copy, PartialEq, Eq, Debug, Drop)]
 pub enum Refusal {
     FlowLength,
     MemoryShort,
 }
 
 // Whether the flow's length and the memory fit the network.
-fn check<G: Network>(
-    network: &G,
-    flow: &[u64],
-    mark: &[u32],
-    queue: &[u32],
-    cursor: &[u32],
-    path: &[u32],
-) -> Result<(), Refusal>
-    ensures { Checked (G.net network.now) (length flow.now) (length mark.now) (length queue.now) (length cursor.now) (length path.now) result }
+fn check<G: Network>(network: &G, flow: &[u64], memory: &Memory) -> Result<(), Refusal>
+    ensures { Checked (G.net network.now) (length flow.now) memory.now result }
 {
     let nodes = network.nodes();
     if flow.len() != network.arcs() {
         return Err(Refusal::FlowLength);
     }
-    if mark.len() < nodes || queue.len() < nodes || cursor.len() < nodes || path.len() < nodes {
+    if memory.mark.len() < nodes
+        || memory.queue.len() < nodes
+        || memory.cursor.len() < nodes
+        || memory.path.len() < nodes
+    {
         return Err(Refusal::MemoryShort);
     }
     Ok(())
 }
 
 /// Makes `flow` a maximum flow of the network, by Dinic's rounds from the network's initial flow, and returns how many rounds it took.
-/// `flow` has a place for each arc. The rest is memory, with a place for each node at least. At the end `mark` is above 0 at the nodes that
-/// are still reached from the source, which are a minimum cut.
+/// `flow` has a place for each arc, and each list of `memory` one for each node at least. At the end `memory.mark` is above 0 at the nodes
+/// that are still reached from the source, which are a minimum cut.
 ///
 /// A round costs no more than nodes times arcs, and there are fewer rounds than nodes.
 pub fn maximize<G: Network>(
     network: &G,
     flow: &mut [u64],
-    mark: &mut [u32],
-    queue: &mut [u32],
-    cursor: &mut [u32],
-    path: &mut [u32],
+    memory: &mut Memory,
 ) -> Result<usize, Refusal>
-    ensures { Outcome (G.net network.now) (G.initial network.now) flow.old mark.old queue.old cursor.old path.old flow.new mark.new queue.new cursor.new path.new result }
+    ensures outcome { Outcome (G.net network.now) (G.initial network.now) flow.old memory.old flow.new memory.new result }
+    ensures same { SameLists memory.old memory.new }
 {
-    check(network, flow, mark, queue, cursor, path)?;
-    Ok(solve(network, flow, mark, queue, cursor, path))
+    check(network, flow, memory)?;
+    network.load(flow);
+    Ok(run(network, flow, memory))
 }
 
 /// The same from no flow at all, whatever the initial flow.
+#[tactic(auto, using(crate::proofs::Running::none_flows))]
 pub fn maximize_from_zero<G: Network>(
     network: &G,
     flow: &mut [u64],
-    mark: &mut [u32],
-    queue: &mut [u32],
-    cursor: &mut [u32],
-    path: &mut [u32],
+    memory: &mut Memory,
 ) -> Result<usize, Refusal>
-    ensures { Outcome (G.net network.now) (λ _. 0) flow.old mark.old queue.old cursor.old path.old flow.new mark.new queue.new cursor.new path.new result }
+    ensures outcome { Outcome (G.net network.now) (λ _. 0) flow.old memory.old flow.new memory.new result }
+    ensures same { SameLists memory.old memory.new }
 {
-    check(network, flow, mark, queue, cursor, path)?;
-    Ok(solve_anew(network, flow, mark, queue, cursor, path))
+    check(network, flow, memory)?;
+    clear(flow);
+    Ok(run(network, flow, memory))
 }

@@ -1,8 +1,0 @@
-use Rattle.std.proofs.Common.{◌≡◌, ℕ, ◌+◌, ◌<◌, ◌≤◌}
-use Rattle.network.specs.Residual.{to, room}
-use Rattle.flow.specs.Lists.{at}
-use Rattle.flow.proofs.block.first_open.Given as goal
-
-abbrev pub invariant-loop-j : goal.invariant-loop-j
-invariant-loop-j g l = (k : ℕ) → l.i ≤ k → k < l.j → 0 < room (g.G.Network.net l.network) (at l.flow) (g.G.Network.inc l.network l.v k)
-    → at l.mark (to (g.G.Network.net l.network) (g.G.Network.inc l.network l.v k)) ≡ at l.mark l.v + 1 → ⊥
