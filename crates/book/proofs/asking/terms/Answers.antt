@@ -1,6 +1,6 @@
 use Rattle.std.proofs.Common.{◌<◌, subst}
 use Rattle.calls.specs.Situation.{amount_of}
-use Rattle.book.proofs.asking.limit.Goals as goal
+use Rattle.book.proofs.asking.terms.Goals as goal
 
 pub part-requires : goal.part-requires
 part-requires g c = (
