@@ -1,31 +1,22 @@
 -- Answers that are written down one after the other, and what they amount to.
 
-use Rattle.std.proofs.Common.{◌≡◌, ℕ, zero, suc, ◌+◌, ◌*◌, ◌/◌, ◌%◌, ◌<◌, Bool, true, false, ◌&&◌, eqb, ◌≢◌, List, [], ◌∷◌, length, get_or, set, is_some, Some, None, Option, sym, refl, ap, ◌∙◌, subst, arith, get_or-set_other, get_or-set_same, below_more, eq-eqb}
-use Rattle.std.proofs.lemmas.Bool.{eqb-true}
+use Rattle.std.proofs.Common.{◌≡◌, ℕ, ◌+◌, ◌*◌, ◌/◌, ◌%◌, ◌^◌, ◌<◌, ◌≤◌, Bool, true, false, ◌&&◌, eqb, List, length, get_or, set, is_some, Some, None, Option, option_map, sym, refl, ap, ◌∙◌, subst, inl, inr, arith, eq-eqb, get_or-set_same, get_or-set_other}
+use Rattle.std.proofs.lemmas.Bool.{eqb-true, cases_eq, cases_lt}
+use Rattle.std.proofs.lemmas.List.{get_or_past}
 use Rattle.binder.specs.Meaning.{Meaning}
 use Rattle.table.specs.Drawn.{least}
 use Rattle.table.specs.Agreement.{Agrees}
 use Rattle.table.proofs.Slots.{least_passes, least_le}
-use Rattle.cover.specs.View.{at, flag, Low, situation}
+use Rattle.cover.specs.declared.problem.Lot.{Lot as Held}
+use Rattle.cover.specs.declared.problem.Terms.{Terms}
+use Rattle.cover.specs.View.{situation, terms_at, Small}
+use Rattle.cover.specs.View.{lot_at as held_lot_at, exposure_at as amount_at, issuer_of as issuer_held, worth_of as worth_held, amount_of as amount_held}
 use Rattle.curve.specs.declared.lot.Lot.{Lot}
 use Rattle.calls.specs.declared.Exposure.{Exposure}
 use Rattle.calls.specs.State.{lot_at, exposure_at, held_at, open_at}
-use Rattle.calls.specs.Situation.{issuer_of, admits_of, limit_of, situation_of}
-use Rattle.book.specs.Asked.{limit_for, LotsNoted, ExposuresNoted, PairsNoted}
-
-pub noted_more : {A : Type 0} (d : A) (xs : List A) (f : ℕ → A) (i : ℕ) (v : A) → i < length xs → ((k : ℕ) → k < i → get_or xs k d ≡ f k) → v ≡ f i
-    → (k : ℕ) → k < i + 1 → get_or (set xs i v) k d ≡ f k
-noted_more d xs f i v l before here =
-    below_more (λ k. get_or (set xs i v) k d ≡ f k) i
-    (λ k h. let ne : k ≢ i = omega arith in rw get_or-set_other (before k h))
-    (get_or-set_same xs i v d l ∙ here)
-
-pub low_more : (xs : List ℕ) (i v : ℕ) → v < 1099511627776 → Low xs → Low (set xs i v)
-low_more [] i v l h k = h k
-low_more (x ∷ xs) zero v l h zero = l
-low_more (x ∷ xs) zero v l h (suc k) = h (suc k)
-low_more (x ∷ xs) (suc i) v l h zero = h zero
-low_more (x ∷ xs) (suc i) v l h (suc k) = low_more xs i v l (λ j. h (suc j)) k
+use Rattle.calls.specs.Situation.{issuer_of, worth_of, amount_of, admits_of, limit_of, situation_of}
+use Rattle.book.specs.Kept.{Worths, Amounts}
+use Rattle.book.specs.Asked.{held_as, limit_for, terms_for}
 
 -- a limit at a held lot and an open exposure is that of the lot's issuer
 limit_held : (m : Meaning) (l : Option Lot) (x : Option Exposure) → is_some l ≡ true → is_some x ≡ true → limit_for m l x ≡ limit_of m x (issuer_of l)
@@ -45,47 +36,94 @@ right_true : (a b : Bool) → (a && b) ≡ true → b ≡ true
 right_true true b h = h
 right_true false b h = let z : ◌≡◌ {A = ℕ} 0 1 = cc in absurd (omega arith)
 
+-- one place is written in a list whose elements all pass
+pub all_more : {A : Type 0} (d : A) (P : A → Type 0) (xs : List A) (n : ℕ) (v : A) → n < length xs → ((k : ℕ) → P (get_or xs k d)) → P v → (k : ℕ) → P (get_or (set xs n v) k d)
+all_more d P xs n v h before here k = elim (cases_eq k n) [
+  | inl e ↦ subst (λ k. P (get_or (set xs n v) k d)) (sym e) (subst P (sym (get_or-set_same xs n v d h)) here)
+  | inr ne ↦ subst P (sym (get_or-set_other xs n k v d ne)) (before k)
+]
+
+-- the fields of what is written down are those of the lot and of the exposure
+same_held : (l : Option Lot) → is_some (option_map held_as l) ≡ is_some l
+same_held None = refl
+same_held (Some l) = refl
+
+same_issuer : (l : Option Lot) → issuer_held (option_map held_as l) ≡ issuer_of l
+same_issuer None = refl
+same_issuer (Some l) = refl
+
+same_worth : (l : Option Lot) → worth_held (option_map held_as l) ≡ worth_of l
+same_worth None = refl
+same_worth (Some l) = refl
+
+same_open : (x : Option Exposure) → is_some (option_map (λ x. x.amount) x) ≡ is_some x
+same_open None = refl
+same_open (Some x) = refl
+
+same_amount : (x : Option Exposure) → amount_held (option_map (λ x. x.amount) x) ≡ amount_of x
+same_amount None = refl
+same_amount (Some x) = refl
+
 -- What is written down says the same as the book and the binder, wherever a lot is held and an exposure open: a limit stands at the
 -- smallest held lot place of the issuer, which is a place of that issuer.
-module _ (m : Meaning) (lots : List (Option Lot)) (xs : List (Option Exposure)) (held : List Bool) (issuer worth : List ℕ) (opened : List Bool) (amount : List ℕ) (admits : List Bool) (limits : List ℕ)
-    (nl : LotsNoted lots held issuer worth 64) (ne : ExposuresNoted xs opened amount 16) (np : PairsNoted m lots xs admits limits 1024) where
-  place_of : (l e : ℕ) → e < 16 → ((l * 16 + e) / 16 ≡ l) × ((l * 16 + e) % 16 ≡ e)
-  place_of l e h = (omega arith, omega arith)
+module _ (m : Meaning) (lots : List (Option Lot)) (xs : List (Option Exposure)) (held : List (Option Held)) (amounts : List (Option ℕ)) (terms : List Terms)
+    (nl : (l : ℕ) → l < 64 → held_lot_at held l ≡ option_map held_as (lot_at lots l))
+    (ne : (e : ℕ) → e < 16 → amount_at amounts e ≡ option_map (λ x. x.amount) (exposure_at xs e))
+    (np : (k : ℕ) → k < 1024 → terms_at terms k ≡ terms_for m (lot_at lots (k / 16)) (exposure_at xs (k % 16))) where
+  held_is : (l : ℕ) → l < 64 → is_some (held_lot_at held l) ≡ held_at lots l
+  held_is l h = ap is_some (nl l h) ∙ same_held (lot_at lots l)
 
-  same_admits : (l e : ℕ) → l < 64 → e < 16 → admits_of m (lot_at lots l) (exposure_at xs e) ≡ flag admits (l * 16 + e)
-  same_admits l e hl he =
-      let p = place_of l e he in
-      let it = np.admits_is (l * 16 + e) (omega arith) in
-      let P : ℕ → ℕ → Type 0 = λ a b. admits_of m (lot_at lots a) (exposure_at xs b) ≡ flag admits (l * 16 + e) in
-      subst (λ a. P a e) p.0 (subst (λ b. P ((l * 16 + e) / 16) b) p.1 (sym it))
+  issuer_is : (l : ℕ) → l < 64 → issuer_held (held_lot_at held l) ≡ issuer_of (lot_at lots l)
+  issuer_is l h = ap issuer_held (nl l h) ∙ same_issuer (lot_at lots l)
 
-  limit_there : (t e : ℕ) → t < 64 → e < 16 → at limits (t * 16 + e) ≡ limit_for m (lot_at lots t) (exposure_at xs e)
-  limit_there t e ht he =
-      let p = place_of t e he in
-      let it = np.limits_is (t * 16 + e) (omega arith) in
-      let P : ℕ → ℕ → Type 0 = λ a b. at limits (t * 16 + e) ≡ limit_for m (lot_at lots a) (exposure_at xs b) in
-      subst (λ a. P a e) p.0 (subst (λ b. P ((t * 16 + e) / 16) b) p.1 it)
+  worth_is : (l : ℕ) → l < 64 → worth_held (held_lot_at held l) ≡ worth_of (lot_at lots l)
+  worth_is l h = ap worth_held (nl l h) ∙ same_worth (lot_at lots l)
+
+  opened_is : (e : ℕ) → e < 16 → is_some (amount_at amounts e) ≡ open_at xs e
+  opened_is e h = ap is_some (ne e h) ∙ same_open (exposure_at xs e)
+
+  amount_is : (e : ℕ) → e < 16 → amount_held (amount_at amounts e) ≡ amount_of (exposure_at xs e)
+  amount_is e h = ap amount_held (ne e h) ∙ same_amount (exposure_at xs e)
+
+  terms_there : (l e : ℕ) → l < 64 → e < 16 → terms_at terms (l * 16 + e) ≡ terms_for m (lot_at lots l) (exposure_at xs e)
+  terms_there l e hl he =
+      let p : (l * 16 + e) / 16 ≡ l = omega arith in
+      let q : (l * 16 + e) % 16 ≡ e = omega arith in
+      np (l * 16 + e) (omega arith) ∙ ap (λ a. terms_for m (lot_at lots a) (exposure_at xs ((l * 16 + e) % 16))) p ∙ ap (λ b. terms_for m (lot_at lots l) (exposure_at xs b)) q
 
   same_limit : (l e : ℕ) → l < 64 → e < 16 → held_at lots l ≡ true → open_at xs e ≡ true
-      → limit_of m (exposure_at xs e) (issuer_of (lot_at lots l)) ≡ at limits (least (λ k. flag held k && eqb (at issuer k) (issuer_of (lot_at lots l))) 63 * 16 + e)
+      → limit_of m (exposure_at xs e) (issuer_of (lot_at lots l)) ≡ (terms_at terms (least (λ k. is_some (held_lot_at held k) && eqb (issuer_held (held_lot_at held k)) (issuer_of (lot_at lots l))) 63 * 16 + e)).limit
   same_limit l e hl he hh ho =
       let i = issuer_of (lot_at lots l) in
-      let test : ℕ → Bool = λ k. flag held k && eqb (at issuer k) i in
-      let mine : test l ≡ true = both_true _ _ (nl.held_is l hl ∙ hh) (eq-eqb (at issuer l) i (nl.issuer_is l hl)) in
+      let test : ℕ → Bool = λ k. is_some (held_lot_at held k) && eqb (issuer_held (held_lot_at held k)) i in
+      let mine : test l ≡ true = both_true _ _ (held_is l hl ∙ hh) (eq-eqb (issuer_held (held_lot_at held l)) i (issuer_is l hl)) in
       let t = least test 63 in
       let first = least_passes test 63 l (omega arith) mine in
       let low : t < 64 = omega (arith, least_le test 63) in
-      let on : held_at lots t ≡ true = sym (nl.held_is t low) ∙ left_true _ _ first.0 in
-      let is : issuer_of (lot_at lots t) ≡ i = sym (nl.issuer_is t low) ∙ eqb-true (at issuer t) i (right_true (flag held t) _ first.0) in
-      sym (limit_there t e low he ∙ (limit_held m (lot_at lots t) (exposure_at xs e) on ho ∙ ap (limit_of m (exposure_at xs e)) is))
+      let on : held_at lots t ≡ true = sym (held_is t low) ∙ left_true _ _ first.0 in
+      let is : issuer_of (lot_at lots t) ≡ i = sym (issuer_is t low) ∙ eqb-true (issuer_held (held_lot_at held t)) i (right_true (is_some (held_lot_at held t)) _ first.0) in
+      sym (ap (λ (r : Terms). r.limit) (terms_there t e low he) ∙ (limit_held m (lot_at lots t) (exposure_at xs e) on ho ∙ ap (limit_of m (exposure_at xs e)) is))
 
-  pub agrees : Agrees (situation_of m lots xs) (situation held issuer worth opened amount admits limits)
+  pub agrees : Agrees (situation_of m lots xs) (situation held amounts terms)
   agrees = record {
-    held = λ l h. sym (nl.held_is l h);
-    issuer = λ l h k. sym (nl.issuer_is l h);
-    worth = λ l h k. sym (nl.worth_is l h);
-    opened = λ e h. sym (ne.opened_is e h);
-    amount = λ e h k. sym (ne.amount_is e h);
-    admits = λ l e hl he k j. same_admits l e hl he;
+    held = λ l h. sym (held_is l h);
+    issuer = λ l h k. sym (issuer_is l h);
+    worth = λ l h k. sym (worth_is l h);
+    opened = λ e h. sym (opened_is e h);
+    amount = λ e h k. sym (amount_is e h);
+    admits = λ l e hl he k j. sym (ap (λ (r : Terms). r.admitted) (terms_there l e hl he));
     limit = λ l e hl he hh ho. same_limit l e hl he hh ho;
+  }
+
+  pub small : length held ≡ 64 → length amounts ≡ 16 → Worths lots → Amounts xs → ((k : ℕ) → (terms_at terms k).limit < 2 ^ 40) → Small held amounts terms
+  small len-held len-amounts w a limits = record {
+    worths = λ l. elim (cases_lt l 64) [
+      | inl h ↦ omega (arith, worth_is l h, w l)
+      | inr h ↦ omega (arith, ap worth_held (get_or_past held l None (omega arith)))
+    ];
+    amounts = λ e. elim (cases_lt e 16) [
+      | inl h ↦ omega (arith, amount_is e h, a e)
+      | inr h ↦ omega (arith, ap amount_held (get_or_past amounts e None (omega arith)))
+    ];
+    limits = limits;
   }

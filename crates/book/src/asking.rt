@@ -1,17 +1,17 @@
 // The binder's answers about a book, asked for once and written down.
 
-ghost use Rattle.std.specs.Prelude.{◌≡◌, ℕ, ◌*◌, ◌/◌, ◌%◌, ◌^◌, ◌<◌, ◌≤◌, Bool, false, length, is_some};
+ghost use Rattle.std.specs.Prelude.{◌≡◌, ℕ, ◌*◌, ◌/◌, ◌%◌, ◌^◌, ◌<◌, ◌≤◌};
 ghost use Rattle.table.specs.Agreement.{Agrees};
-ghost use Rattle.cover.specs.View.{Low};
+ghost use Rattle.cover.specs.View.{terms_at};
 ghost use Rattle.cover.specs.Seen.{seen};
-ghost use Rattle.calls.specs.State.{lot_at, exposure_at, held_at, open_at};
-ghost use Rattle.calls.specs.Situation.{description, issuer_of, worth_of, amount_of, admits_of, situation_of};
+ghost use Rattle.calls.specs.State.{lot_at, exposure_at};
+ghost use Rattle.calls.specs.Situation.{description, amount_of, situation_of};
 ghost use Rattle.book.specs.Kept.{Worths, Amounts};
-ghost use Rattle.book.specs.Asked.{limit_for, LotsNoted, ExposuresNoted, PairsNoted};
+ghost use Rattle.book.specs.Asked.{held_as, terms_for};
 
 use binder::Binder;
 use calls::Exposure;
-use cover::Problem;
+use cover::{Problem, Terms};
 use curve::lot::Lot;
 use grammar::Description;
 
@@ -35,102 +35,52 @@ fn part(amount: u64, share: u16) -> u64
     amount * share as u64 / 10_000
 }
 
-// Whether the exposure's schedule admits the lot.
-fn admits<B: Binder>(binder: &B, lot: Option<Lot>, exposure: Option<Exposure>) -> bool
-    ensures { result ≡ admits_of (B.Binder.meaning binder.now) lot exposure }
+// What an allocation is told of a lot.
+fn held(lot: Lot) -> cover::Lot
+    ensures { result ≡ held_as lot }
 {
-    match (lot, exposure) {
-        (Some(l), Some(x)) => binder.admits(x.schedule, describe(&l)),
-        _ => false,
+    cover::Lot {
+        issuer: lot.issuer,
+        worth: lot.worth,
     }
 }
 
-// The exposure's limit for the lot's issuer.
-fn limit<B: Binder>(binder: &B, lot: Option<Lot>, exposure: Option<Exposure>) -> u64
+// Whether the exposure's schedule admits the lot, and the exposure's limit for the lot's issuer; nothing where either is missing.
+fn terms<B: Binder>(binder: &B, lot: Option<Lot>, exposure: Option<Exposure>) -> Terms
     requires { amount_of exposure < 2 ^ 40 }
-    ensures value { result ≡ limit_for (B.Binder.meaning binder.now) lot exposure }
-    ensures low { result < 2 ^ 40 }
+    ensures value { result ≡ terms_for (B.Binder.meaning binder.now) lot exposure }
+    ensures low { result.limit < 2 ^ 40 }
 {
     match (lot, exposure) {
-        (Some(l), Some(x)) => part(x.amount, binder.share(x.schedule, l.issuer as u16)),
-        _ => 0,
+        (Some(l), Some(x)) => Terms {
+            admitted: binder.admits(x.schedule, describe(&l)),
+            limit: part(x.amount, binder.share(x.schedule, l.issuer as u16)),
+        },
+        _ => Terms {
+            admitted: false,
+            limit: 0,
+        },
     }
 }
 
-// Notes which lot places are held, and the issuer and the collateral value of each lot.
-fn note_lots(
-    lots: &[Option<Lot>; 64],
-    held: &mut [bool; 64],
-    issuer: &mut [u8; 64],
-    worth: &mut [u64; 64],
-)
-    requires { Worths lots.now × Low worth.old }
-    ensures noted { LotsNoted lots.now held.new issuer.new worth.new 64 }
-    ensures low { Low worth.new }
-{
-    for l in 0..64usize {
-        let (is_held, i, w) = fields(lots[l]);
-        held[l] = is_held;
-        issuer[l] = i;
-        worth[l] = w;
-    }
-}
-
-// What is noted of a lot place.
-fn fields(lot: Option<Lot>) -> (bool, u8, u64)
-    ensures { (result.0 ≡ is_some lot) × (result.1 ≡ issuer_of lot) × (result.2 ≡ worth_of lot) }
-{
-    match lot {
-        Some(l) => (true, l.issuer, l.worth),
-        None => (false, 0, 0),
-    }
-}
-
-// Notes which exposure places are open, and the amount of each exposure.
-fn note_exposures(
-    exposures: &[Option<Exposure>; 16],
-    opened: &mut [bool; 16],
-    amount: &mut [u64; 16],
-)
-    requires { Amounts exposures.now × Low amount.old }
-    ensures noted { ExposuresNoted exposures.now opened.new amount.new 16 }
-    ensures low { Low amount.new }
-{
-    for e in 0..16usize {
-        let (is_open, a) = amount_in(exposures[e]);
-        opened[e] = is_open;
-        amount[e] = a;
-    }
-}
-
-// What is noted of an exposure place.
-fn amount_in(exposure: Option<Exposure>) -> (bool, u64)
-    ensures { (result.0 ≡ is_some exposure) × (result.1 ≡ amount_of exposure) }
-{
-    match exposure {
-        Some(x) => (true, x.amount),
-        None => (false, 0),
-    }
-}
-
-// Asks the binder about each pair of a lot and an exposure, and notes the answers.
-fn note_pairs<B: Binder>(
+// The terms of each pair of a lot place and an exposure place.
+fn all_terms<B: Binder>(
     binder: &B,
     lots: &[Option<Lot>; 64],
     exposures: &[Option<Exposure>; 16],
-    admitted: &mut [bool; 1024],
-    limits: &mut [u64; 1024],
-)
-    requires { Amounts exposures.now × Low limits.old }
-    ensures noted { PairsNoted (B.Binder.meaning binder.now) lots.now exposures.now admitted.new limits.new 1024 }
-    ensures low { Low limits.new }
+) -> [Terms; 1024]
+    requires { Amounts exposures.now }
+    ensures asked { (k : ℕ) → k < 1024 → terms_at result k ≡ terms_for (B.Binder.meaning binder.now) (lot_at lots.now (k / 16)) (exposure_at exposures.now (k % 16)) }
+    ensures low { (k : ℕ) → (terms_at result k).limit < 2 ^ 40 }
 {
-    for k in 0..1024usize {
-        let lot = lots[k / 16];
-        let exposure = exposures[k % 16];
-        admitted[k] = admits(binder, lot, exposure);
-        limits[k] = limit(binder, lot, exposure);
+    let mut all = [Terms {
+        admitted: false,
+        limit: 0,
+    }; 1024];
+    for (k, of_pair) in all.iter_mut().enumerate() {
+        *of_pair = terms(binder, lots[k / 16], exposures[k % 16]);
     }
+    all
 }
 
 // The book's lots and exposures with the binder's answers about them.
@@ -142,23 +92,9 @@ pub fn problem<B: Binder>(
     requires { Worths lots.now × Amounts exposures.now }
     ensures { Agrees (situation_of (B.Binder.meaning binder.now) lots.now exposures.now) (seen result) }
 {
-    let mut held = [false; 64];
-    let mut issuer = [0u8; 64];
-    let mut worth = [0u64; 64];
-    note_lots(lots, &mut held, &mut issuer, &mut worth);
-    let mut opened = [false; 16];
-    let mut amount = [0u64; 16];
-    note_exposures(exposures, &mut opened, &mut amount);
-    let mut admits = [false; 1024];
-    let mut limits = [0u64; 1024];
-    note_pairs(binder, lots, exposures, &mut admits, &mut limits);
     Problem {
-        held,
-        issuer,
-        worth,
-        opened,
-        amount,
-        admits,
-        limits,
+        lots: lots.map(|lot| lot.map(held)),
+        exposures: exposures.map(|exposure| exposure.map(|x| x.amount)),
+        terms: all_terms(binder, lots, exposures),
     }
 }

@@ -1,3 +1,4 @@
 pub mod First
+pub mod Totals
 pub mod Loading
 pub mod Allocating

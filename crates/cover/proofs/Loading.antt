@@ -1,69 +1,73 @@
 -- A table is lawful exactly if its pledges can be sent along their paths one after the other, no arc carrying more than it can.
 -- The flow is then the sum of the paths. Where an arc cannot carry a pledge, it could not carry the whole table's either.
 
-use Rattle.std.proofs.Common.{◌≡◌, ℕ, ◌+◌, ◌*◌, ◌/◌, ◌%◌, ◌<◌, ◌≤◌, Bool, true, false, eqb, List, sym, refl, ap, ◌∙◌, inl, inr, arith}
-use Rattle.network.specs.Sums.{when, Agree}
-use Rattle.network.proofs.Sums.{sum_start, sum_more, sum_same}
-use Rattle.table.specs.Table.{Situation, Lawful}
+use Rattle.std.proofs.Common.{◌≡◌, ℕ, ◌+◌, ◌*◌, ◌/◌, ◌%◌, ◌<◌, ◌≤◌, Bool, true, false, eqb, leb, List, Option, Some, None, unwrap_or, replicate, sym, refl, ap, ◌∙◌, arith}
+use Rattle.std.proofs.lemmas.Bool.{false≢true, leb-false}
+use Rattle.network.specs.Sums.{when}
+use Rattle.network.proofs.Sums.{sum_start, sum_more, sum_same, hit}
+use Rattle.table.specs.Table.{Situation, Table, Lawful}
+use Rattle.table.specs.Outcome.{Begins}
+use Rattle.table.proofs.Slots.{slot_low}
 use Rattle.table.specs.Drawn.{place, arc, slot, cap_of, flow_of}
 use Rattle.table.specs.Drawn.Arc.{supply, offer, bound, demand}
 use Rattle.table.specs.Paths.{share}
 use Rattle.table.proofs.Sums.{sum_front}
-use Rattle.table.proofs.Paths.{paths_by_place, alone}
+use Rattle.table.proofs.Paths.{paths_by_place}
 use Rattle.table.proofs.Tables.{lawful_within_lem, within_lawful}
 use Rattle.cover.specs.View.{at, pledge}
-use Rattle.cover.specs.Loading.{Within, Bears, Carried, TooMuch, front, Loaded}
+use Rattle.cover.specs.Lists.{zeros_at}
+use Rattle.cover.specs.declared.load.Pledge.{Pledge}
+use Rattle.cover.specs.Loading.{Within, Adds, TooMuch, FlowOf, along, front}
 
-module _ (s : Situation) (l e x : ℕ) (flow : List ℕ) where
-  -- where each can, the sum is still within the capacities
-  pub carried : (flow' : List ℕ) → l < 64 → e < 16 → Within s flow → Bears s l e x flow → ((k : ℕ) → at flow' k ≡ at flow k + share s l e x k) → Carried s l e x flow flow'
-  carried flow' h j w b adds = record {
-    adds = adds;
-    within = λ k i. elim (alone s l e x k h j) [
-      | inl a ↦ elim a.is [
-        | inl q ↦ omega (arith, adds k, a.gets, ap (at flow) q, ap (λ k. cap_of s (arc k)) q, b.supplied)
-        | inr r ↦ elim r [
-          | inl q ↦ omega (arith, adds k, a.gets, ap (at flow) q, ap (λ k. cap_of s (arc k)) q, b.offered)
-          | inr r ↦ elim r [
-            | inl q ↦ omega (arith, adds k, a.gets, ap (at flow) q, ap (λ k. cap_of s (arc k)) q, b.bounded)
-            | inr q ↦ omega (arith, adds k, a.gets, ap (at flow) q, ap (λ k. cap_of s (arc k)) q, b.demanded)
-          ]
-        ]
-      ]
-      | inr z ↦ omega (arith, adds k, z, w k i)
-    ];
-  }
+module _ (s : Situation) (p : Pledge) (flow : List ℕ) where
+  -- an arc on the path that cannot carry the pledge
+  over : (k : ℕ) → k < 2128 → p.amount ≤ along s p k → leb (at flow k + p.amount) (cap_of s (arc k)) ≡ false → TooMuch s p flow
+  over k h a f = (k, h, omega (arith, a, leb-false _ _ f))
+
+  pub over_supply : leb (at flow (place (supply p.pair.lot)) + p.amount) (cap_of s (arc (place (supply p.pair.lot)))) ≡ false → TooMuch s p flow
+  over_supply = over (place (supply p.pair.lot)) (omega (arith, p.pair.low.0)) (omega (arith, hit (place (supply p.pair.lot)) (place (supply p.pair.lot)) p.amount refl))
+
+  pub over_offer : leb (at flow (place (offer p.pair.lot p.pair.exposure)) + p.amount) (cap_of s (arc (place (offer p.pair.lot p.pair.exposure)))) ≡ false → TooMuch s p flow
+  over_offer = over (place (offer p.pair.lot p.pair.exposure)) (omega (arith, p.pair.low.0, p.pair.low.1)) (omega (arith, hit (place (offer p.pair.lot p.pair.exposure)) (place (offer p.pair.lot p.pair.exposure)) p.amount refl))
+
+  pub over_bound : leb (at flow (place (bound (slot s p.pair.lot) p.pair.exposure)) + p.amount) (cap_of s (arc (place (bound (slot s p.pair.lot) p.pair.exposure)))) ≡ false → TooMuch s p flow
+  over_bound = over (place (bound (slot s p.pair.lot) p.pair.exposure)) (omega (arith, p.pair.low.1, slot_low s p.pair.lot p.pair.low.0)) (omega (arith, hit (place (bound (slot s p.pair.lot) p.pair.exposure)) (place (bound (slot s p.pair.lot) p.pair.exposure)) p.amount refl))
+
+-- the flow to begin with, from that of a table or from nothing
+pub begins_at : (s : Situation) (p : Table) (r : Option (List ℕ)) → FlowOf s p r → (b : Bool) × Begins s p (at (unwrap_or r (replicate 2128 0))) b
+begins_at s p None f = (false, record { test = (λ y. absurd (false≢true y), λ w. absurd (f w)); loaded = λ y. absurd (false≢true y); blank = λ _ k h. zeros_at 2128 k })
+begins_at s p (Some flow) f = (true, record { test = (λ _. f.0, λ _. refl); loaded = λ _. f.1; blank = λ y. absurd (false≢true (sym y)) })
 
 module _ (s : Situation) (table : List ℕ) where
   front_more : (n k : ℕ) → front s table (n + 1) k ≡ front s table n k + share s (n / 16) (n % 16) (at table n) k
   front_more n k = sum_more n (λ i. share s (i / 16) (i % 16) (at table i) k)
 
-  pub load_none : (flow : List ℕ) → ((k : ℕ) → at flow k ≡ 0) → Loaded s table 0 flow
-  load_none flow z = (λ k h. omega (arith, z k), λ k. z k ∙ sym (sum_start (λ i. share s (i / 16) (i % 16) (at table i) k)))
+  front_whole : (k : ℕ) → k < 2128 → front s table 1024 k ≡ flow_of s (pledge table) k
+  front_whole k h = sum_same 1024 _ _ (λ i _. let q : i ≡ i / 16 * 16 + i % 16 = omega arith in ap (λ j. share s (i / 16) (i % 16) (at table j) k) q) ∙ paths_by_place s (pledge table) k h
 
-  pub load_more : (flow flow' : List ℕ) (n : ℕ) → Loaded s table n flow → Carried s (n / 16) (n % 16) (at table n) flow flow' → Loaded s table (n + 1) flow'
-  load_more flow flow' n w c = (c.within, λ k. omega (arith, c.adds k, w.1 k, front_more n k))
+  pub load_none : (flow : List ℕ) → ((k : ℕ) → at flow k ≡ 0) → (k : ℕ) → at flow k ≡ front s table 0 k
+  load_none flow z k = z k ∙ sym (sum_start (λ i. share s (i / 16) (i % 16) (at table i) k))
 
   none_at : (b : Bool) → when b 0 ≡ 0
   none_at true = refl
   none_at false = refl
 
-  -- a pledge of 0 sends nothing
-  pub load_skip : (flow : List ℕ) (n : ℕ) → at table n ≤ 0 → Loaded s table n flow → Loaded s table (n + 1) flow
-  load_skip flow n h w = let z : at table n ≡ 0 = omega arith in (
-    w.0,
-    λ k.
-        omega (arith, w.1 k, front_more n k, ap (λ x. share s (n / 16) (n % 16) x k) z, none_at (eqb (place (supply (n / 16))) k), none_at (eqb (place (offer (n / 16) (n % 16))) k), none_at (eqb (place (bound (slot s (n / 16)) (n % 16))) k), none_at (eqb (place (demand (n % 16))) k)),
-  )
+  -- the pledge at the place n is p
+  module _ (n : ℕ) (p : Pledge) (h-lot : p.pair.lot ≡ n / 16) (h-exposure : p.pair.exposure ≡ n % 16) (h-amount : p.amount ≡ at table n) where
+    along_is : (k : ℕ) → along s p k ≡ share s (n / 16) (n % 16) (at table n) k
+    along_is k = ap (λ l. share s l p.pair.exposure p.amount k) h-lot ∙ ap (λ e. share s (n / 16) e p.amount k) h-exposure ∙ ap (λ x. share s (n / 16) (n % 16) x k) h-amount
 
-  front_whole : (k : ℕ) → k < 2128 → front s table 1024 k ≡ flow_of s (pledge table) k
-  front_whole k h = sum_same 1024 _ _ (λ i _. let q : i ≡ i / 16 * 16 + i % 16 = omega arith in ap (λ j. share s (i / 16) (i % 16) (at table j) k) q) ∙ paths_by_place s (pledge table) k h
+    pub load_more : (flow flow' : List ℕ) → ((k : ℕ) → at flow k ≡ front s table n k) → Adds s p flow flow' → (k : ℕ) → at flow' k ≡ front s table (n + 1) k
+    load_more flow flow' w adds k = omega (arith, adds k, w k, front_more n k, along_is k)
 
-  pub load_lawful : (flow : List ℕ) → Loaded s table 1024 flow → Lawful s (pledge table)
-  load_lawful flow w = within_lawful s (pledge table) (λ k h. omega (arith, front_whole k h, w.1 k, w.0 k h))
+    -- a pledge of 0 sends nothing
+    pub load_skip : (flow : List ℕ) → p.amount ≤ 0 → ((k : ℕ) → at flow k ≡ front s table n k) → (k : ℕ) → at flow k ≡ front s table (n + 1) k
+    load_skip flow h w k =
+        let z : at table n ≡ 0 = omega arith in
+        omega (arith, w k, front_more n k, ap (λ x. share s (n / 16) (n % 16) x k) z, none_at (eqb (place (supply (n / 16))) k), none_at (eqb (place (offer (n / 16) (n % 16))) k), none_at (eqb (place (bound (slot s (n / 16)) (n % 16))) k), none_at (eqb (place (demand (n % 16))) k))
 
-  pub load_flow : (flow : List ℕ) → Loaded s table 1024 flow → Agree 2128 (at flow) (flow_of s (pledge table))
-  load_flow flow w k h = w.1 k ∙ front_whole k h
+    pub load_refused : (flow : List ℕ) → n < 1024 → ((k : ℕ) → at flow k ≡ front s table n k) → TooMuch s p flow → Lawful s (pledge table) → ⊥
+    load_refused flow h w o v = omega (arith, o.2, w o.0, along_is o.0, front_more n o.0, sum_front (n + 1) 1024 (λ i. share s (i / 16) (i % 16) (at table i) o.0) (omega arith), front_whole o.0 o.1, lawful_within_lem s (pledge table) v o.0 o.1)
 
-  pub load_refused : (flow : List ℕ) (n : ℕ) → n < 1024 → Loaded s table n flow → TooMuch s (n / 16) (n % 16) (at table n) flow → Lawful s (pledge table) → ⊥
-  load_refused flow n h w o v = omega (arith, o.2, w.1 o.0, front_more n o.0, sum_front (n + 1) 1024 (λ i. share s (i / 16) (i % 16) (at table i) o.0) (omega arith), front_whole o.0 o.1, lawful_within_lem s (pledge table) v o.0 o.1)
+  pub load_all : (flow : List ℕ) → Within s flow → ((k : ℕ) → at flow k ≡ front s table 1024 k) → FlowOf s (pledge table) (Some flow)
+  load_all flow v w = (within_lawful s (pledge table) (λ k h. omega (arith, front_whole k h, w k, v k h)), λ k h. w k ∙ front_whole k h)

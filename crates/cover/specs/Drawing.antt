@@ -1,6 +1,6 @@
 -- The arrays that hold a drawn network: each arc's capacity, each lot's slot, and the lots of each slot.
 
-use Rattle.std.specs.Prelude.{◌≡◌, ℕ, ◌+◌, ◌*◌, ◌<◌, true, false, ◌⊎◌, List, ◌==◌}
+use Rattle.std.specs.Prelude.{◌≡◌, ℕ, ◌+◌, ◌*◌, ◌<◌, true, false, List, Option, Some, None, ◌==◌, slice_index_or}
 use Rattle.network.specs.Sums.{sum_over, when}
 use Rattle.table.specs.Table.{Situation, of_issuer}
 use Rattle.table.specs.Drawn.{slot, arc, cap_of}
@@ -30,10 +30,14 @@ Rowed slots members counts = (t i : ℕ) → (t < 64) × (i < at counts t) → a
 abbrev pub Ranked : List ℕ → List ℕ → ℕ → Type 0
 Ranked slots members n = (l : ℕ) → l < n → at members (at slots l * 64 + lots_of slots (at slots l) l) ≡ l
 
--- Of the first n lots: the smallest held lot place of each issuer, or 64 where none of them is the issuer's.
-pub record First (s : Situation) (first : List ℕ) (n : ℕ) : Type 0 where
-  pub before : (i k : ℕ) → i < 256 → k < at first i → k < n → of_issuer s i k ≡ false
-  pub found : (i : ℕ) → i < 256 → (at first i ≡ 64) ⊎ ((at first i < n) × (of_issuer s i (at first i) ≡ true))
+-- what is known of the issuer i after the first n lots: none of them is a lot of i, or the smallest place of one
+abbrev pub FirstOf : Situation → ℕ → ℕ → Option ℕ → Type 0
+FirstOf s n i None = (k : ℕ) → k < n → of_issuer s i k ≡ false
+FirstOf s n i (Some t) = (t < n) × (of_issuer s i t ≡ true) × ((k : ℕ) → k < t → of_issuer s i k ≡ false)
+
+-- of each issuer
+abbrev pub First : Situation → List (Option ℕ) → ℕ → Type 0
+First s first n = (i : ℕ) → i < 256 → FirstOf s n i (slice_index_or first i None)
 
 -- all of it, of the first n lots
 pub record Rows (slots members counts : List ℕ) (n : ℕ) : Type 0 where

@@ -4,6 +4,7 @@ pub mod Drawing
 pub mod Picture
 pub mod Numbered
 pub mod Loading
+pub mod Marked
 pub mod Answer
 pub mod PictureLemmas
 pub mod Rows

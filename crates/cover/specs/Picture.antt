@@ -7,7 +7,7 @@ use Rattle.cover.specs.View.{at}
 use Rattle.cover.specs.Seen.{seen}
 
 abbrev pub pictured : Drawn → Situation
-pictured d = seen d.problem
+pictured d = seen d.problem.now
 
 abbrev pub count_of : Drawn → ℕ → ℕ
 count_of d = at d.counts

@@ -35,7 +35,7 @@ module _ (d : Drawn) where
   }
 
   bears_small : (k : ℕ) → k < 2128 → bears (pictured d) (arc k) < 2 ^ 40
-  bears_small = each (λ a. bears (pictured d) a < 2 ^ 40) (λ l h. d.problem.small.0 l) (λ l e h j. d.problem.small.0 l) (λ t e h j. d.problem.small.2 _) (λ e h. d.problem.small.1 e)
+  bears_small = each (λ a. bears (pictured d) a < 2 ^ 40) (λ l h. d.problem.now.small.worths l) (λ l e h j. d.problem.now.small.worths l) (λ t e h j. d.problem.now.small.limits _) (λ e h. d.problem.now.small.amounts e)
 
   pub cap_small : (k : ℕ) → k < 2128 → cap_of (pictured d) (arc k) < 2 ^ 40
   cap_small k h = omega (arith, bears_small k h, when_low (drawn_arc (pictured d) (arc k)) (bears (pictured d) (arc k)))

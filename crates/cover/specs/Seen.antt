@@ -5,4 +5,4 @@ use Rattle.cover.specs.declared.problem.Problem.{Problem}
 use Rattle.cover.specs.View.{situation}
 
 abbrev pub seen : Problem → Situation
-seen p = situation p.held p.issuer p.worth p.opened p.amount p.admits p.limits
+seen p = situation p.lots p.exposures p.terms

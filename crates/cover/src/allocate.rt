@@ -11,30 +11,30 @@ ghost use Rattle.cover.specs.Picture.{pictured};
 ghost use Rattle.cover.specs.Answer.{Allocated};
 
 use crate::answer::answer;
-use crate::drawing::{draw, owed_in};
 use crate::drawn::Drawn;
-use crate::load::{is_lawful, start, store, value};
-use crate::note::note;
+use crate::load::store;
+use crate::note::Reached;
+use crate::pair::{ARCS, NODES};
 use crate::position::Position;
 use crate::{Problem, Record};
 use flow::maximize;
 
 // The drawn network with the flow of the table, or with none where the table is not lawful.
-fn begin(drawn: Drawn, table: &[u64; 1024]) -> Position
-    ensures drawn { result.drawn ≡ drawn }
-    ensures begins { (b : Bool) × Begins (pictured drawn) (pledge table.now) (at result.first) b }
+fn begin<'a>(drawn: &'a Drawn<'a>, table: &[u64; 1024]) -> Position<'a>
+    ensures drawn { result.drawn.now ≡ drawn.now }
+    ensures begins { (b : Bool) × Begins (pictured drawn.now) (pledge table.now) (at result.first) b }
 {
-    let first = start(&drawn, table);
+    let first = drawn.start(table);
     Position { drawn, first }
 }
 
 // Dinic's rounds from the position's flow to a maximum flow, and how many; `mark` is above 0 at the nodes that are still reached.
 fn solve(position: &Position, flow: &mut [u64; 2128], mark: &mut [u32; 1106]) -> usize
-    ensures { Solved (net_of (pictured position.now.drawn)) (at position.now.first) (at flow.new) (at mark.new) result }
+    ensures { Solved (net_of (pictured position.now.drawn.now)) (at position.now.first) (at flow.new) (at mark.new) result }
 {
-    let mut queue = [0u32; 1106];
-    let mut cursor = [0u32; 1106];
-    let mut path = [0u32; 1106];
+    let mut queue = [0u32; NODES];
+    let mut cursor = [0u32; NODES];
+    let mut path = [0u32; NODES];
     match maximize(position, flow, mark, &mut queue, &mut cursor, &mut path) {
         Ok(rounds) => rounds,
         Err(_) => unreachable(),
@@ -47,8 +47,8 @@ impl Problem {
     pub fn is_lawful(&self, table: &[u64; 1024]) -> bool
         ensures { Decides result (Lawful (seen self.now) (pledge table.now)) }
     {
-        let drawn = draw(self);
-        is_lawful(&drawn, table)
+        let drawn = self.draw();
+        drawn.is_lawful(table)
     }
 
     // Makes `table` one that is lawful and covers, by rounds from it, or from zeros where it is not lawful, and returns how many rounds
@@ -57,16 +57,21 @@ impl Problem {
     pub fn allocate(&self, table: &mut [u64; 1024], shortage: &mut Record) -> Result<usize, u64>
         ensures { Allocated (seen self.now) table.old table.new shortage.old shortage.new result }
     {
-        let position = begin(draw(self), table);
-        let mut flow = [0u64; 2128];
-        let mut mark = [0u32; 1106];
+        let drawn = self.draw();
+        let position = begin(&drawn, table);
+        let mut flow = [0u64; ARCS];
+        let mut mark = [0u32; NODES];
         let rounds = solve(&position, &mut flow, &mut mark);
-        let given = value(&position.drawn, &flow);
-        let owed = owed_in(self);
+        let given = drawn.value(&flow);
+        let owed = self.owed();
         if given == owed {
             store(&flow, table);
         } else {
-            *shortage = note(&position.drawn, &mark);
+            let reached = Reached {
+                drawn: &drawn,
+                mark: &mark,
+            };
+            *shortage = reached.note();
         }
         answer(rounds, given, owed)
     }

@@ -8,23 +8,20 @@ mod lists;
 mod node;
 
 use crate::Problem;
-pub use lists::{
-    cell_arc, cell_target, exposure_arc, exposure_target, lot_arc, lot_target, slot_of,
-};
-pub use node::{Node, node_of};
+pub use node::Node;
 
 // Each arc's capacity and each lot's slot, with the lots of each slot: `counts[t]` of them in the row of 64 places of `t`.
-#[derive(Clone, Copy)]
-pub struct Drawn {
-    pub problem: Problem,
+#[derive(Drop)]
+pub struct Drawn<'a> {
+    pub problem: &'a Problem,
     pub capacity: [u64; 2128],
     pub slots: [usize; 64],
     pub members: [u8; 4096],
     pub counts: [usize; 64],
     ghost arcs: { length capacity ≡ 2128 },
     ghost lots: { (length slots ≡ 64) × (length members ≡ 4096) × (length counts ≡ 64) },
-    ghost capacities: { Capacities (seen problem) capacity },
-    ghost slotted: { Slotted (seen problem) slots },
+    ghost capacities: { Capacities (seen problem.now) capacity },
+    ghost slotted: { Slotted (seen problem.now) slots },
     ghost counted: { Counted slots counts 64 },
     ghost known: { Lots members counts },
     ghost rowed: { Rowed slots members counts },

@@ -8,9 +8,11 @@ mod drawing;
 mod drawn;
 mod load;
 mod note;
+mod pair;
 mod position;
 mod problem;
 mod record;
+mod total;
 
-pub use problem::Problem;
+pub use problem::{Lot, Problem, Terms};
 pub use record::Record;

@@ -1,96 +1,95 @@
 // The record of what the last search for layers reached, where it did not reach the sink.
 
-ghost use Rattle.std.specs.Prelude.{◌≡◌, ℕ, ◌<◌, Bool, nat_lt};
+ghost use Rattle.std.specs.Prelude.{◌≡◌, ℕ, ◌^◌, ◌<◌, ◌≤◌};
 ghost use Rattle.words.specs.Word.{bit};
-ghost use Rattle.table.specs.Record.{marks_of, SameMarks};
-ghost use Rattle.cover.specs.View.{at, flag};
-ghost use Rattle.cover.specs.Picture.{pictured};
+ghost use Rattle.table.specs.Record.{SameMarks};
+ghost use Rattle.cover.specs.View.{at};
 ghost use Rattle.cover.specs.Answer.{noted};
+ghost use Rattle.cover.specs.Marked.{marked};
 
 use crate::drawn::Drawn;
+use crate::pair::{EXPOSURE_NODES, EXPOSURES, LOT_NODES, LOTS, Pair};
 use crate::record::Record;
 use words::pack;
 
-// An open exposure is marked where it is not reached.
-fn exposure_marked(drawn: &Drawn, mark: &[u32; 1106], e: usize) -> bool
-    requires { e < 16 }
-    ensures { result ≡ (marks_of (pictured drawn.now) (λ v. nat_lt 0 (at mark.now v))).exposures e }
-{
-    let opened = drawn.problem.opened[e];
-    let found = mark[1089 + e];
-    opened && found == 0
+// A drawn network with the marks of a search, which are above 0 at the nodes that it reached.
+#[derive(Clone, Copy)]
+pub struct Reached<'a> {
+    pub drawn: &'a Drawn<'a>,
+    pub mark: &'a [u32; 1106],
 }
 
-// A held lot is marked where it is not reached.
-fn lot_marked(drawn: &Drawn, mark: &[u32; 1106], l: usize) -> bool
-    requires { l < 64 }
-    ensures { result ≡ (marks_of (pictured drawn.now) (λ v. nat_lt 0 (at mark.now v))).lots l }
+// The word whose bit `p` is the answer at the place `p`.
+fn word<const N: usize, F: Fn(usize) -> bool>(marked: F) -> u64
+    requires few { N ≤ 64 }
+    requires asked { (p : ℕ) → p < N → F.pre marked p }
+    ensures bits { (p : ℕ) → p < N → F.post marked p (bit result p) }
+    ensures low { result < 2 ^ N }
 {
-    let held = drawn.problem.held[l];
-    let found = mark[1 + l];
-    held && found == 0
-}
-
-// An issuer is marked at a marked exposure where its cell there is reached.
-fn issuer_marked(drawn: &Drawn, mark: &[u32; 1106], e: usize, t: usize) -> bool
-    requires { (e < 16) × (t < 64) }
-    ensures { result ≡ (marks_of (pictured drawn.now) (λ v. nat_lt 0 (at mark.now v))).issuers e t }
-{
-    let exposed = exposure_marked(drawn, mark, e);
-    let held = drawn.problem.held[t];
-    let slot = drawn.slots[t];
-    let found = mark[65 + (t * 16 + e)];
-    exposed && held && slot == t && found > 0
-}
-
-fn exposure_word(drawn: &Drawn, mark: &[u32; 1106]) -> u16
-    ensures { (e : ℕ) → e < 16 → bit result e ≡ (marks_of (pictured drawn.now) (λ v. nat_lt 0 (at mark.now v))).exposures e }
-{
-    let mut flags = [false; 16];
-    for e in 0..16 {
-        flags[e] = exposure_marked(drawn, mark, e);
-    }
-    pack(&flags) as u16
-}
-
-fn lot_word(drawn: &Drawn, mark: &[u32; 1106]) -> u64
-    ensures { (l : ℕ) → l < 64 → bit result l ≡ (marks_of (pictured drawn.now) (λ v. nat_lt 0 (at mark.now v))).lots l }
-{
-    let mut flags = [false; 64];
-    for l in 0..64 {
-        flags[l] = lot_marked(drawn, mark, l);
+    let mut flags = [false; N];
+    for (p, flag) in flags.iter_mut().enumerate() {
+        *flag = marked(p);
     }
     pack(&flags)
 }
 
-fn issuer_word(drawn: &Drawn, mark: &[u32; 1106], e: usize) -> u64
-    requires { e < 16 }
-    ensures { (t : ℕ) → t < 64 → bit result t ≡ (marks_of (pictured drawn.now) (λ v. nat_lt 0 (at mark.now v))).issuers e t }
-{
-    let mut flags = [false; 64];
-    for t in 0..64 {
-        flags[t] = issuer_marked(drawn, mark, e, t);
+impl Reached<'_> {
+    // An open exposure is marked where it is not reached.
+    fn exposure_marked(&self, e: usize) -> bool
+        requires { e < 16 }
+        ensures { result ≡ (marked self.now).exposures e }
+    {
+        let is_open = self.drawn.problem.exposures[e].is_some();
+        is_open && self.mark[EXPOSURE_NODES + e] == 0
     }
-    pack(&flags)
-}
 
-fn issuer_words(drawn: &Drawn, mark: &[u32; 1106]) -> [u64; 16]
-    ensures { (e : ℕ) → e < 16 → (t : ℕ) → t < 64 → bit (at result e) t ≡ (marks_of (pictured drawn.now) (λ v. nat_lt 0 (at mark.now v))).issuers e t }
-{
-    let mut words = [0u64; 16];
-    for e in 0..16 {
-        words[e] = issuer_word(drawn, mark, e);
+    // A held lot is marked where it is not reached.
+    fn lot_marked(&self, l: usize) -> bool
+        requires { l < 64 }
+        ensures { result ≡ (marked self.now).lots l }
+    {
+        let held = self.drawn.problem.lots[l].is_some();
+        held && self.mark[LOT_NODES + l] == 0
     }
-    words
-}
 
-// The record of the marks.
-pub fn note(drawn: &Drawn, mark: &[u32; 1106]) -> Record
-    ensures { SameMarks (noted result) (marks_of (pictured drawn.now) (λ v. nat_lt 0 (at mark.now v))) }
-{
-    Record {
-        exposures: exposure_word(drawn, mark),
-        lots: lot_word(drawn, mark),
-        issuers: issuer_words(drawn, mark),
+    // An issuer is marked at a marked exposure where its cell there is reached.
+    fn issuer_marked(&self, exposure: usize, lot: usize) -> bool
+        requires { (exposure < 16) × (lot < 64) }
+        ensures { result ≡ (marked self.now).issuers exposure lot }
+    {
+        let held = self.drawn.problem.lots[lot].is_some();
+        let leads = held && self.drawn.slots[lot] == lot;
+        let cell = Pair { lot, exposure }.cell();
+        self.exposure_marked(exposure) && leads && self.mark[cell] > 0
+    }
+
+    // The marked issuers at an exposure.
+    fn issuer_word(&self, exposure: usize) -> u64
+        requires { exposure < 16 }
+        ensures { (t : ℕ) → t < 64 → bit result t ≡ (marked self.now).issuers exposure t }
+    {
+        word::<LOTS, _>(|lot| self.issuer_marked(exposure, lot))
+    }
+
+    // Those at each exposure.
+    fn issuer_words(&self) -> [u64; 16]
+        ensures { (e : ℕ) → e < 16 → (t : ℕ) → t < 64 → bit (at result e) t ≡ (marked self.now).issuers e t }
+    {
+        let mut words = [0u64; EXPOSURES];
+        for (e, word) in words.iter_mut().enumerate() {
+            *word = self.issuer_word(e);
+        }
+        words
+    }
+
+    // The record of the marks.
+    pub fn note(&self) -> Record
+        ensures { SameMarks (noted result) (marked self.now) }
+    {
+        Record {
+            exposures: word::<EXPOSURES, _>(|e| self.exposure_marked(e)) as u16,
+            lots: word::<LOTS, _>(|l| self.lot_marked(l)),
+            issuers: self.issuer_words(),
+        }
     }
 }

@@ -8,11 +8,11 @@ mod net;
 
 use crate::drawn::Drawn;
 
-#[derive(Clone, Copy)]
-pub struct Position {
-    pub drawn: Drawn,
+#[derive(Drop)]
+pub struct Position<'a> {
+    pub drawn: &'a Drawn<'a>,
     pub first: [u64; 2128],
     ghost arcs: { length first ≡ 2128 },
-    ghost within: { Within (pictured drawn) first },
-    ghost conserved: { Conserved (pictured drawn) first },
+    ghost within: { Within (pictured drawn.now) first },
+    ghost conserved: { Conserved (pictured drawn.now) first },
 }

@@ -1,22 +1,28 @@
-// What an allocation is asked about: the lots held, the exposures open, which exposure admits which lot, and the limits.
+// What an allocation is asked about: the lots held, the exposures open, and the terms between them.
 
-ghost use Rattle.std.specs.Prelude.{◌≡◌, length};
-ghost use Rattle.cover.specs.View.{Low};
+ghost use Rattle.cover.specs.View.{Small};
 
-#[derive(Clone, Copy)]
+// A held lot.
+#[derive(Clone, Copy, PartialEq, Eq, Debug)]
+pub struct Lot {
+    pub issuer: u8,
+    pub worth: u64,
+}
+
+// Whether an exposure admits a lot, and its limit for the lot's issuer.
+#[derive(Clone, Copy, PartialEq, Eq, Debug)]
+pub struct Terms {
+    pub admitted: bool,
+    pub limit: u64,
+}
+
+#[derive(Clone, Copy, PartialEq, Eq, Debug)]
 pub struct Problem {
-    // by lot place
-    pub held: [bool; 64],
-    pub issuer: [u8; 64],
-    pub worth: [u64; 64],
-    // by exposure place
-    pub opened: [bool; 16],
-    pub amount: [u64; 16],
-    // by lot place and exposure place; a limit stands at its issuer's smallest held lot place
-    pub admits: [bool; 1024],
-    pub limits: [u64; 1024],
-    ghost lots: { (length held ≡ 64) × (length issuer ≡ 64) × (length worth ≡ 64) },
-    ghost exposures: { (length opened ≡ 16) × (length amount ≡ 16) },
-    ghost pairs: { (length admits ≡ 1024) × (length limits ≡ 1024) },
-    ghost small: { Low worth × Low amount × Low limits },
+    // by lot place: the lot that is held there
+    pub lots: [Option<Lot>; 64],
+    // by exposure place: the amount of the exposure that is open there
+    pub exposures: [Option<u64>; 16],
+    // by lot place and exposure place; a limit counts at its issuer's smallest held lot place
+    pub terms: [Terms; 1024],
+    ghost small: { Small lots exposures terms },
 }

@@ -1,93 +1,100 @@
 // The residual arcs at a node, by its kind: those along an arc have an even number, those back along one the odd number after it.
 
-ghost use Rattle.std.specs.Prelude.{◌≡◌, ◌+◌, ◌<◌};
+ghost use Rattle.std.specs.Prelude.{◌≡◌, ◌+◌, ◌*◌, ◌<◌};
+ghost use Rattle.network.specs.Residual.{ahead, back};
 ghost use Rattle.table.specs.Drawn.{number, slot};
-ghost use Rattle.table.specs.Drawn.Node.{source, lot, cell, exposure, sink};
-ghost use Rattle.table.specs.Listing.{inc_of_node, target_of};
+ghost use Rattle.table.specs.Listing.{deg_of_node, inc_of_node, target_of};
 ghost use Rattle.cover.specs.Picture.{pictured, count_of, member_of};
+ghost use Rattle.cover.specs.Numbered.{shown, Placed};
 
-use super::Drawn;
+use super::{Drawn, Node};
+use crate::pair::{DEMANDS, EXPOSURE_NODES, EXPOSURES, LOT_NODES, LOTS, Pair, SINK};
 
-// The slot of the lot `l`.
-pub fn slot_of(drawn: &Drawn, l: usize) -> usize
-    requires { l < 64 }
-    ensures is { result ≡ slot (pictured drawn.now) l }
-    ensures low { result < 64 }
+// The residual arc along the arc `k`.
+fn ahead(k: usize) -> usize
+    requires { k < 2128 }
+    ensures { result ≡ ahead k }
 {
-    drawn.slots[l]
+    2 * k
 }
 
-// The lot that stands at `i` among those of the slot `t`.
-fn member(drawn: &Drawn, t: usize, i: usize) -> usize
-    requires { (t < 64) × (i < count_of drawn.now t) }
-    ensures is { result ≡ member_of drawn.now t i }
-    ensures low { result < 64 }
+// The residual arc back along the arc `k`.
+fn back(k: usize) -> usize
+    requires { k < 2128 }
+    ensures { result ≡ back k }
 {
-    drawn.members[t * 64 + i] as usize
+    2 * k + 1
 }
 
-pub fn lot_arc(drawn: &Drawn, l: usize, i: usize) -> usize
-    requires { (l < 64) × (i < 17) }
-    ensures { result ≡ inc_of_node (member_of drawn.now) (lot l) i }
-{
-    if i < 16 {
-        2 * (64 + (l * 16 + i))
-    } else {
-        2 * l + 1
+impl Drawn<'_> {
+    // The slot of the lot `l`.
+    pub fn slot_of(&self, l: usize) -> usize
+        requires { l < 64 }
+        ensures is { result ≡ slot (pictured self.now) l }
+        ensures low { result < 64 }
+    {
+        self.slots[l]
     }
-}
 
-pub fn cell_arc(drawn: &Drawn, t: usize, e: usize, i: usize) -> usize
-    requires { (t < 64) × ((e < 16) × (i < count_of drawn.now t + 1)) }
-    ensures { result ≡ inc_of_node (member_of drawn.now) (cell t e) i }
-{
-    if i == 0 {
-        2 * (1088 + (t * 16 + e))
-    } else {
-        2 * (64 + (member(drawn, t, i - 1) * 16 + e)) + 1
+    // The lot that stands at `i` among those of the slot `t`.
+    fn member(&self, t: usize, i: usize) -> usize
+        requires { (t < 64) × (i < count_of self.now t) }
+        ensures is { result ≡ member_of self.now t i }
+        ensures low { result < 64 }
+    {
+        self.members[t * LOTS + i] as usize
     }
-}
 
-pub fn exposure_arc(drawn: &Drawn, e: usize, i: usize) -> usize
-    requires { (e < 16) × (i < 65) }
-    ensures { result ≡ inc_of_node (member_of drawn.now) (exposure e) i }
-{
-    if i == 0 {
-        2 * (2112 + e)
-    } else {
-        2 * (1088 + ((i - 1) * 16 + e)) + 1
+    // How many residual arcs leave a node.
+    pub fn degree(&self, node: Node) -> usize
+        ensures { result ≡ deg_of_node (count_of self.now) (shown node) }
+    {
+        match node {
+            Node::Source => LOTS,
+            Node::Lot(_) => EXPOSURES + 1,
+            Node::Cell(pair) => self.counts[pair.lot] + 1,
+            Node::Exposure(_) => LOTS + 1,
+            Node::Sink => EXPOSURES,
+        }
     }
-}
 
-pub fn lot_target(drawn: &Drawn, l: usize, i: usize) -> usize
-    requires { (l < 64) × (i < 17) }
-    ensures { result ≡ number (target_of (pictured drawn.now) (member_of drawn.now) (lot l) i) }
-{
-    if i < 16 {
-        65 + (slot_of(drawn, l) * 16 + i)
-    } else {
-        0
+    // The `i`-th of them.
+    pub fn leaving(&self, node: Node, i: usize) -> usize
+        requires { Placed node × (i < deg_of_node (count_of self.now) (shown node)) }
+        ensures { result ≡ inc_of_node (member_of self.now) (shown node) i }
+    {
+        match node {
+            Node::Source => ahead(i),
+            Node::Lot(lot) if i < EXPOSURES => ahead(Pair { lot, exposure: i }.offer()),
+            Node::Lot(lot) => back(lot),
+            Node::Cell(pair) if i == 0 => ahead(pair.bound()),
+            Node::Cell(pair) => {
+                let lot = self.member(pair.lot, i - 1);
+                back(Pair { lot, exposure: pair.exposure }.offer())
+            }
+            Node::Exposure(e) if i == 0 => ahead(DEMANDS + e),
+            Node::Exposure(exposure) => back(Pair { lot: i - 1, exposure }.bound()),
+            Node::Sink => back(DEMANDS + i),
+        }
     }
-}
 
-pub fn cell_target(drawn: &Drawn, t: usize, e: usize, i: usize) -> usize
-    requires { (t < 64) × ((e < 16) × (i < count_of drawn.now t + 1)) }
-    ensures { result ≡ number (target_of (pictured drawn.now) (member_of drawn.now) (cell t e) i) }
-{
-    if i == 0 {
-        1089 + e
-    } else {
-        1 + member(drawn, t, i - 1)
-    }
-}
-
-pub fn exposure_target(drawn: &Drawn, e: usize, i: usize) -> usize
-    requires { (e < 16) × (i < 65) }
-    ensures { result ≡ number (target_of (pictured drawn.now) (member_of drawn.now) (exposure e) i) }
-{
-    if i == 0 {
-        1105
-    } else {
-        65 + ((i - 1) * 16 + e)
+    // The node that it enters.
+    pub fn target(&self, node: Node, i: usize) -> usize
+        requires { Placed node × (i < deg_of_node (count_of self.now) (shown node)) }
+        ensures { result ≡ number (target_of (pictured self.now) (member_of self.now) (shown node) i) }
+    {
+        match node {
+            Node::Source => LOT_NODES + i,
+            Node::Lot(l) if i < EXPOSURES => {
+                let lot = self.slot_of(l);
+                Pair { lot, exposure: i }.cell()
+            }
+            Node::Lot(_) => 0,
+            Node::Cell(pair) if i == 0 => EXPOSURE_NODES + pair.exposure,
+            Node::Cell(pair) => LOT_NODES + self.member(pair.lot, i - 1),
+            Node::Exposure(_) if i == 0 => SINK,
+            Node::Exposure(exposure) => Pair { lot: i - 1, exposure }.cell(),
+            Node::Sink => EXPOSURE_NODES + i,
+        }
     }
 }

@@ -3,29 +3,34 @@
 ghost use Rattle.std.specs.Prelude.{◌<◌};
 ghost use Rattle.cover.specs.Numbered.{Numbered};
 
+use crate::pair::{CELL_NODES, EXPOSURE_NODES, LOT_NODES, Pair, SINK};
+
+#[derive(Clone, Copy)]
 pub enum Node {
     Source,
     Lot(usize),
     // the slot of an issuer, and an exposure
-    Cell(usize, usize),
+    Cell(Pair),
     Exposure(usize),
     Sink,
 }
 
-// The node of number `v`.
-pub fn node_of(v: usize) -> Node
-    requires { v < 1106 }
-    ensures { Numbered v result }
-{
-    if v < 1 {
-        Node::Source
-    } else if v < 65 {
-        Node::Lot(v - 1)
-    } else if v < 1089 {
-        Node::Cell((v - 65) / 16, (v - 65) % 16)
-    } else if v < 1105 {
-        Node::Exposure(v - 1089)
-    } else {
-        Node::Sink
+impl Node {
+    // The node of number `v`.
+    pub fn of(v: usize) -> Node
+        requires { v < 1106 }
+        ensures { Numbered v result }
+    {
+        if v < LOT_NODES {
+            Node::Source
+        } else if v < CELL_NODES {
+            Node::Lot(v - LOT_NODES)
+        } else if v < EXPOSURE_NODES {
+            Node::Cell(Pair::of(v - CELL_NODES))
+        } else if v < SINK {
+            Node::Exposure(v - EXPOSURE_NODES)
+        } else {
+            Node::Sink
+        }
     }
 }

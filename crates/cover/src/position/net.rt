@@ -7,30 +7,29 @@ ghost use Rattle.cover.specs.Picture.{pictured, count_of, member_of};
 ghost use Rattle.cover.specs.PictureLemmas.{drawn_lawful};
 
 use super::Position;
-use crate::drawn::{
-    Node, cell_arc, cell_target, exposure_arc, exposure_target, lot_arc, lot_target, node_of,
-};
+use crate::drawn::Node;
+use crate::pair::{ARCS, NODES, SINK};
 use flow::Network;
 
-impl Network for Position {
-    ghost net = { λ p. net_of (pictured p.drawn) };
+impl Network for Position<'_> {
+    ghost net = { λ p. net_of (pictured p.drawn.now) };
 
-    ghost deg = { λ p. deg_of (count_of p.drawn) };
+    ghost deg = { λ p. deg_of (count_of p.drawn.now) };
 
-    ghost inc = { λ p. inc_of (member_of p.drawn) };
+    ghost inc = { λ p. inc_of (member_of p.drawn.now) };
 
     ghost initial = { λ p. at p.first };
 
-    ghost lawful = { λ x. drawn_lawful x.drawn };
+    ghost lawful = { λ x. drawn_lawful x.drawn.now };
 
     ghost begins = { λ x. record { within = x.within; conserved = λ v h a b. x.conserved v (h, a, b) } };
 
     fn nodes(&self) -> usize {
-        1106
+        NODES
     }
 
     fn arcs(&self) -> usize {
-        2128
+        ARCS
     }
 
     fn source(&self) -> usize {
@@ -38,37 +37,19 @@ impl Network for Position {
     }
 
     fn sink(&self) -> usize {
-        1105
+        SINK
     }
 
     fn degree(&self, v: usize) -> usize {
-        match node_of(v) {
-            Node::Source => 64,
-            Node::Lot(_) => 17,
-            Node::Cell(t, _) => self.drawn.counts[t] + 1,
-            Node::Exposure(_) => 65,
-            Node::Sink => 16,
-        }
+        self.drawn.degree(Node::of(v))
     }
 
     fn leaving(&self, v: usize, i: usize) -> usize {
-        match node_of(v) {
-            Node::Source => 2 * i,
-            Node::Lot(l) => lot_arc(&self.drawn, l, i),
-            Node::Cell(t, e) => cell_arc(&self.drawn, t, e, i),
-            Node::Exposure(e) => exposure_arc(&self.drawn, e, i),
-            Node::Sink => 2 * (2112 + i) + 1,
-        }
+        self.drawn.leaving(Node::of(v), i)
     }
 
     fn target(&self, v: usize, i: usize) -> usize {
-        match node_of(v) {
-            Node::Source => 1 + i,
-            Node::Lot(l) => lot_target(&self.drawn, l, i),
-            Node::Cell(t, e) => cell_target(&self.drawn, t, e, i),
-            Node::Exposure(e) => exposure_target(&self.drawn, e, i),
-            Node::Sink => 1089 + i,
-        }
+        self.drawn.target(Node::of(v), i)
     }
 
     fn capacity(&self, k: usize) -> u64 {
@@ -76,8 +57,6 @@ impl Network for Position {
     }
 
     fn load(&self, flow: &mut [u64]) {
-        for k in 0..2128 {
-            flow[k] = self.first[k];
-        }
+        flow.copy_from_slice(&self.first);
     }
 }

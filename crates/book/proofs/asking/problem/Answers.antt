@@ -1,14 +1,14 @@
-use Rattle.book.proofs.Empty.{zeros_low}
-use Rattle.book.proofs.Noting.{agrees}
+use Rattle.std.proofs.Common.{None, rules}
+use Rattle.book.proofs.Noting.{agrees, small}
 use Rattle.book.proofs.asking.problem.Goals as goal
 
-pub note_lots-requires : goal.note_lots-requires
-note_lots-requires g c = (c.requires.0, zeros_low 64)
-
-pub note_pairs-requires : goal.note_pairs-requires
-note_pairs-requires g c = (c.requires.1, zeros_low 1024)
+pub invariant_of-result : goal.invariant_of-result
+invariant_of-result g c = record {
+  small = small (g.B.Binder.meaning c.args.binder.now) c.args.lots.now c.args.exposures.now c.map.result c.map-2.result c.all_terms.result
+  (λ l h. let w = c.map.ensures.items.at l None None h in search rules) (λ e h. let w = c.map-2.ensures.items.at e None None h in search rules) c.all_terms.ensures.asked
+  c.map.ensures.items.long c.map-2.ensures.items.long c.requires.0 c.requires.1 c.all_terms.ensures.low;
+}
 
 pub returns : goal.returns
-returns g c = agrees (g.B.Binder.meaning c.args.binder.now) c.args.lots.now c.args.exposures.now
-    c.note_lots.new.held c.note_lots.new.issuer c.note_lots.new.worth c.note_exposures.new.opened c.note_exposures.new.amount
-    c.note_pairs.new.admitted c.note_pairs.new.limits c.note_lots.ensures.noted c.note_exposures.ensures.noted c.note_pairs.ensures.noted
+returns g c = agrees (g.B.Binder.meaning c.args.binder.now) c.args.lots.now c.args.exposures.now c.map.result c.map-2.result c.all_terms.result
+    (λ l h. let w = c.map.ensures.items.at l None None h in search rules) (λ e h. let w = c.map-2.ensures.items.at e None None h in search rules) c.all_terms.ensures.asked

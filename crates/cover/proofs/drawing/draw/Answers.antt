@@ -1,8 +1,0 @@
-use Rattle.std.proofs.Common.{arith}
-use Rattle.table.proofs.Slots.{slot_low}
-use Rattle.cover.specs.Seen.{seen}
-use Rattle.cover.specs.Lists.{zeros_at}
-use Rattle.cover.proofs.drawing.draw.Goals as goal
-
-pub rows-requires : goal.rows-requires
-rows-requires c = (λ l h. omega (arith, c.slots_of-slots.ensures l h, slot_low (seen c.args.problem.now) l h), λ t h. zeros_at 64 t)
