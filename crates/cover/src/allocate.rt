@@ -17,7 +17,7 @@ use crate::note::Reached;
 use crate::pair::{ARCS, NODES};
 use crate::position::Position;
 use crate::{Problem, Record};
-use flow::maximize;
+use flow::{Memory, maximize};
 
 // The drawn network with the flow of the table, or with none where the table is not lawful.
 fn begin<'a>(drawn: &'a Drawn<'a>, table: &[u64; 1024]) -> Position<'a>
@@ -35,7 +35,13 @@ fn solve(position: &Position, flow: &mut [u64; 2128], mark: &mut [u32; 1106]) ->
     let mut queue = [0u32; NODES];
     let mut cursor = [0u32; NODES];
     let mut path = [0u32; NODES];
-    match maximize(position, flow, mark, &mut queue, &mut cursor, &mut path) {
+    let mut memory = Memory {
+        mark,
+        queue: &mut queue,
+        cursor: &mut cursor,
+        path: &mut path,
+    };
+    match maximize(position, flow, &mut memory) {
         Ok(rounds) => rounds,
         Err(_) => unreachable(),
     }

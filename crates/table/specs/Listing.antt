@@ -1,3 +1,4 @@
+-- To believe: nothing that a promise rests on but in which order the arcs of a node are looked at.
 -- The residual arcs that leave each node of the drawn network, in a list. At an exposure and at a cell the arc onward comes first,
 -- so that a walk from the source comes to it at once.
 

@@ -1,3 +1,4 @@
+-- To believe: along which arcs a pledge is sent.
 -- The path of a pledge through the network: from the source to the lot, to the cell of its issuer at the exposure, to the exposure,
 -- to the sink.
 

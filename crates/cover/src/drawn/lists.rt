@@ -70,10 +70,18 @@ impl Drawn<'_> {
             Node::Cell(pair) if i == 0 => ahead(pair.bound()),
             Node::Cell(pair) => {
                 let lot = self.member(pair.lot, i - 1);
-                back(Pair { lot, exposure: pair.exposure }.offer())
+                back(Pair {
+                    lot,
+                    exposure: pair.exposure,
+                }
+                .offer())
             }
             Node::Exposure(e) if i == 0 => ahead(DEMANDS + e),
-            Node::Exposure(exposure) => back(Pair { lot: i - 1, exposure }.bound()),
+            Node::Exposure(exposure) => back(Pair {
+                lot: i - 1,
+                exposure,
+            }
+            .bound()),
             Node::Sink => back(DEMANDS + i),
         }
     }
@@ -93,7 +101,11 @@ impl Drawn<'_> {
             Node::Cell(pair) if i == 0 => EXPOSURE_NODES + pair.exposure,
             Node::Cell(pair) => LOT_NODES + self.member(pair.lot, i - 1),
             Node::Exposure(_) if i == 0 => SINK,
-            Node::Exposure(exposure) => Pair { lot: i - 1, exposure }.cell(),
+            Node::Exposure(exposure) => Pair {
+                lot: i - 1,
+                exposure,
+            }
+            .cell(),
             Node::Sink => EXPOSURE_NODES + i,
         }
     }
