@@ -1,3 +1,3 @@
 pub mod Reading
 mod Cutting
-mod Lines
+pub mod Lines

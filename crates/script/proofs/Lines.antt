@@ -1,6 +1,6 @@
 -- The words of a line, put together from the parts in which they were read.
 
-use Rattle.std.proofs.Common.{ℕ, List, [], ◌∷◌, ◌++◌, sym, subst, append_assoc, append-nil}
+use Rattle.std.proofs.Common.{◌<◌, length, ap, arith, length-append, ℕ, List, [], ◌∷◌, ◌++◌, sym, subst, append_assoc, append-nil}
 use Rattle.curve.specs.declared.lot.Terms.{Terms}
 use Rattle.script.specs.Numerals.{HexByte}
 use Rattle.script.specs.Words.{Cut, Ended, Worded}
@@ -8,6 +8,10 @@ use Rattle.script.specs.Words.Worded.{none, more}
 use Rattle.script.specs.Says.{Spelt, Fields, Described}
 use Rattle.script.specs.Says.Spelt.{none as no_bytes, more as more_bytes}
 use Rattle.script.specs.Says.Fields.{fields}
+
+-- a word takes something of the text
+pub shorter : {text word rest : List ℕ} → Cut text word rest → length rest < length text
+shorter {text} {word} {rest} c = omega (arith, simp length-append at (ap length c.parts), c.some)
 
 pub described : {text : List ℕ} {t : Terms} {rest : List ℕ} → Described text t rest → Ended rest → (ws : List (List ℕ)) × Worded text ws × Fields ws t
 described d e = (

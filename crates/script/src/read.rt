@@ -58,7 +58,7 @@ impl<'a> Words<'a> {
     {
         let expected = Expected::HexByte;
         let mut bytes = Vec::new(heap);
-        while let Some(word) = self.next() {
+        for word in self.by_ref() {
             let found = Some(word);
             let byte = hex_byte(word).ok_or(BadLine { expected, found })?;
             bytes.push(byte)?;

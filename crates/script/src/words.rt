@@ -1,6 +1,7 @@
 // A line is cut into its words in turn; nothing of it is copied.
 
 ghost use Rattle.std.specs.Prelude.{◌≡◌, ℕ, ◌+◌, ◌<◌, ◌≤◌, length, MatchOption, MatchResult, ◌≢◌, slice_index};
+ghost use Rattle.std.specs.Iterator.{at_most};
 ghost use Rattle.script.specs.Words.{kind, Split, Cut, Ended};
 
 #[derive(Clone, Copy, PartialEq, Eq)]
@@ -42,7 +43,7 @@ fn split(text: &str, of: Kind) -> (&str, &str)
     text.split_at(run(text.as_bytes(), of))
 }
 
-// What is still to be read of a line. A cursor and no Iterator, since the rest after a word has to stay in reach.
+// The words of a line from some place on; what follows the last word that was taken stays in reach.
 #[derive(Clone, Copy, PartialEq, Eq, Debug)]
 pub struct Words<'a> {
     rest: &'a str,
@@ -54,13 +55,20 @@ impl<'a> Words<'a> {
     {
         Words { rest: line }
     }
+}
+
+impl<'a> Iterator for Words<'a> {
+    type Item = &'a str;
+
+    ghost next_gives = { λ old r new. MatchOption r
+        (Ended old.rest.now × (new.rest.now ≡ old.rest.now))
+        (λ w. Cut old.rest.now w.now new.rest.now) };
+
+    ghost remaining = { λ s. at_most (length s.rest.now) };
 
     // The next word, if there is one before the line's end or its comment.
-    pub fn next(&mut self) -> Option<&'a str>
-        ensures { MatchOption result
-            (Ended self.old.rest.now × (self.new.rest.now ≡ self.old.rest.now))
-            (λ w. Cut self.old.rest.now w.now self.new.rest.now) }
-    {
+    #[tactic(auto, using(crate::proofs::Lines::shorter))]
+    fn next(&mut self) -> Option<&'a str> {
         let (_, text) = split(self.rest, Kind::Blank);
         let (word, rest) = split(text, Kind::Plain);
         if word.is_empty() {

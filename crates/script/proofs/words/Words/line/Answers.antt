@@ -5,7 +5,7 @@ use Rattle.script.proofs.words.Words.line.Goals as goal
 pub returns : goal.returns
 returns c =
     let l = c.in_ok-line.ensures in
-    (c.in-Some.first.now ∷ l.words, more {rest = c.next.new.self.rest.now} c.in-Some.ensures l.worded, l.says)
+    (c.in-Some.first.now ∷ l.words, more {rest = c.next.new.self.rest.now} c.in-Some.ensures.steps l.worded, l.says)
 
 pub returns-in_default : goal.returns-in_default
-returns-in_default c = none c.in_default.ensures.0
+returns-in_default c = none c.in_default.ensures.steps.0
