@@ -33,6 +33,7 @@ fn try_short(tally: &mut Tally) {
     }
 }
 
+// 16 points and 17, a byte less and a byte more.
 fn try_long(tally: &mut Tally, heap: Global) -> Result<(), AllocError> {
     let mut page = Draft::even(heap, 16)?.page(heap)?;
     try_page(tally, page.as_slice(), Ok(16));
