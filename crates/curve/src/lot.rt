@@ -46,14 +46,14 @@ impl Terms {
             (λ h. InRange self.now × Haircut (nth_points card.now.curves self.now.class) self.now.months h × (h ≤ 10000))
             (λ e. Unpriced (nth_points card.now.curves) self.now e) }
     {
-        let lawful = self.in_range();
-        if !lawful {
+        if !self.in_range() {
             return Err(Cause::FieldOutside);
         }
         card.haircut(self.class, self.months)
     }
 
-    // The lot with these terms under a haircut.
+    // The lot with these terms under a haircut. The fields are proved to fit, so the casts lose nothing;
+    // `try_from` would only refuse once more what was refused before.
     fn lot(&self, haircut: u16) -> Lot
         requires { InRange self.now × (haircut ≤ 10000) }
         ensures { result ≡ lot_of self.now haircut }

@@ -7,21 +7,31 @@ mod lots;
 mod pages;
 mod seeded;
 mod step;
-mod tally;
 
-use std::io;
+use std::{fmt, io};
+use tally::Tally;
+
+// How many trials were right and how many wrong.
+#[derive(Clone, Copy)]
+struct Counts(Tally);
+
+impl fmt::Display for Counts {
+    fn fmt<W: fmt::Write>(&self, f: &mut fmt::Formatter<W>) -> fmt::Result {
+        let Tally { right, wrong, .. } = self.0;
+        write!(f, "{right} right, {wrong} wrong")
+    }
+}
 
 fn main(rt: HostRuntime) -> io::Result<()> {
     let heap = rt.alloc();
-    let pages = pages::try_pages(heap)?;
+    let pages = Counts(pages::try_pages(heap)?);
     println!(rt; "pages: {pages}")?;
-    let writes = pages::try_writes(heap)?;
+    let writes = Counts(pages::try_writes(heap)?);
     println!(rt; "writes: {writes}")?;
-    let lots = lots::try_lots();
+    let lots = Counts(lots::try_lots());
     println!(rt; "lots: {lots}")?;
-    let seeded = seeded::try_seeded(heap, 3000)?;
-    let curves = seeded.curves;
-    let months = seeded.months;
-    let answers = seeded.answers;
+    let curves = 3000;
+    let (months, tally) = seeded::try_seeded(heap, curves)?;
+    let answers = Counts(tally);
     println!(rt; "from a seed: {curves} curves, {months} months: {answers}")
 }

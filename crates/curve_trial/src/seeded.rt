@@ -4,18 +4,13 @@ ghost use Rattle.std.specs.Prelude.{◌<◌};
 
 use crate::draw::Draft;
 use crate::step::haircuts;
-use crate::tally::Tally;
 use curve::card::Card;
+use curve::curve::point::Point;
 use curve::lot::Terms;
 use std::alloc::{AllocError, Global};
+use tally::Tally;
 
-#[derive(Clone, Copy)]
-pub struct Seeded {
-    pub curves: u64,
-    pub months: u64,
-    pub answers: Tally,
-}
-
+// A linear congruence, and no generator of the kit: the counts that are printed are those of its sequence.
 #[derive(Drop)]
 struct Seed {
     state: u64,
@@ -36,20 +31,18 @@ impl Seed {
 
     // A lawful curve: steps of 1 to 80 months, haircuts that rise or stay.
     fn curve(&mut self, heap: Global) -> Result<Draft, AllocError> {
-        let mut months = Vec::new(heap);
-        let mut haircuts = Vec::new(heap);
-        let mut month: u64 = 0;
-        let mut haircut = self.below(100);
+        let mut points = Vec::new(heap);
+        let mut month: u16 = 0;
+        let mut haircut = self.below(100) as u16;
         let count = 1 + self.below(16);
         for _ in 0..count {
-            months.push((month & 0xffff) as u16)?;
-            haircuts.push((haircut & 0xffff) as u16)?;
-            month = month.saturating_add(1 + self.below(80));
+            points.push(Point { month, haircut })?;
+            month = month.saturating_add(1 + self.below(80) as u16);
             if self.below(4) > 0 {
-                haircut = haircut.saturating_add(self.below(661));
+                haircut = haircut.saturating_add(self.below(661) as u16);
             }
         }
-        Ok(Draft { months, haircuts })
+        Ok(Draft { points })
     }
 }
 
@@ -76,36 +69,31 @@ fn right_lot(card: &Card, months: u64, market: u64, haircut: Option<u64>) -> boo
     }
 }
 
-fn try_curve(seeded: &mut Seeded, heap: Global, seed: &mut Seed) -> Result<(), AllocError> {
+// The next curve, tried at each of its months and at the one after; answers how many months it has.
+fn try_curve(tally: &mut Tally, heap: Global, seed: &mut Seed) -> Result<u64, AllocError> {
     let draft = seed.curve(heap)?;
     let mut card = Card::blank();
     let page = draft.page(heap)?;
-    seeded.answers.note(card.load(0, page.as_slice()).is_ok());
-    let second = haircuts(heap, draft.months.as_slice(), draft.haircuts.as_slice())?;
-    for (month, haircut) in second.as_slice().iter().enumerate() {
+    tally.note(card.load(0, page.as_slice()).is_ok());
+    let second = haircuts(heap, draft.points.as_slice())?;
+    for (month, haircut) in second.iter().enumerate() {
         let market = 1 + seed.below(100_000_000_000);
-        seeded
-            .answers
-            .note(right_lot(&card, month as u64, market, Some(*haircut)));
-        seeded.months = seeded.months.saturating_add(1);
+        tally.note(right_lot(&card, month as u64, market, Some(*haircut)));
     }
     let past = second.len() as u64;
     if past <= 1200 {
-        seeded.answers.note(right_lot(&card, past, 1_000_000, None));
+        tally.note(right_lot(&card, past, 1_000_000, None));
     }
-    seeded.curves = seeded.curves.saturating_add(1);
-    Ok(())
+    Ok(past)
 }
 
-pub fn try_seeded(heap: Global, curves: u64) -> Result<Seeded, AllocError> {
-    let mut seeded = Seeded {
-        curves: 0,
-        months: 0,
-        answers: Tally::new(),
-    };
+// The number of months tried, and how the trials came out.
+pub(crate) fn try_seeded(heap: Global, curves: u64) -> Result<(u64, Tally), AllocError> {
+    let mut tally = Tally::new();
+    let mut months: u64 = 0;
     let mut seed = Seed { state: 20250607 };
     for _ in 0..curves {
-        try_curve(&mut seeded, heap, &mut seed)?;
+        months = months.saturating_add(try_curve(&mut tally, heap, &mut seed)?);
     }
-    Ok(seeded)
+    Ok((months, tally))
 }

@@ -1,11 +1,14 @@
 // Haircuts by stepping from month to month: a second method, which divides nothing.
 
+use curve::curve::point::Point;
 use std::alloc::{AllocError, Global};
 
-// The months after a point up to the next, `width` of them. With each month the line rises by `rise`
-// parts of `width`, and the haircut steps up by one until it lies on the line or above it.
-fn climb(out: &mut Vec<u64>, start: u64, rise: u64, width: u64) -> Result<(), AllocError> {
-    let mut haircut = start;
+// The months after a point up to the next. With each month the line between the two rises by the whole
+// rise, in parts of one over the width, and the haircut steps up by one until it lies on the line or above it.
+fn climb(out: &mut Vec<u64>, from: Point, to: Point) -> Result<(), AllocError> {
+    let width = u64::from(to.month.saturating_sub(from.month));
+    let rise = u64::from(to.haircut.saturating_sub(from.haircut));
+    let mut haircut = u64::from(from.haircut);
     let mut line: u64 = 0;
     let mut stepped: u64 = 0;
     for _ in 0..width {
@@ -23,20 +26,16 @@ fn climb(out: &mut Vec<u64>, start: u64, rise: u64, width: u64) -> Result<(), Al
 }
 
 // The haircuts of the months 0, 1, 2, .. up to the last point.
-pub fn haircuts(heap: Global, months: &[u16], haircuts: &[u16]) -> Result<Vec<u64>, AllocError> {
+pub(crate) fn haircuts(heap: Global, points: &[Point]) -> Result<Vec<u64>, AllocError> {
     let mut out = Vec::new(heap);
-    let mut before: Option<(u16, u16)> = None;
-    for (month, haircut) in months.iter().zip(haircuts.iter()) {
-        match before {
-            None => out.push(*haircut as u64)?,
-            Some((a, p)) => climb(
-                &mut out,
-                p as u64,
-                haircut.saturating_sub(p) as u64,
-                month.saturating_sub(a) as u64,
-            )?,
+    let Some(first) = points.first() else {
+        return Ok(out);
+    };
+    out.push(u64::from(first.haircut))?;
+    for pair in points.windows(2) {
+        if let [from, to] = pair {
+            climb(&mut out, *from, *to)?;
         }
-        before = Some((*month, *haircut));
     }
     Ok(out)
 }

@@ -83,7 +83,8 @@ fn breaks_haircuts(points: &[Point], j: usize) -> bool
     (j > 0 && haircut < points[j - 1].haircut) || haircut > 10_000
 }
 
-// Refuses the first of `count` points that breaks a rule, for the cause of that rule.
+// Refuses the first of `count` points that breaks a rule, for the cause of that rule. A rule is asked by
+// the point's place, since it compares the point with the one before.
 fn refuse_first<F: Fn(usize) -> bool>(
     count: usize,
     cause: Cause,
