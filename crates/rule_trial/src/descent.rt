@@ -190,8 +190,5 @@ pub fn judged(text: &[u8]) -> Outcome {
         .into_iter()
         .filter_map(|(number, place)| place.map(|place| Fault { place, number }))
         .min();
-    match least {
-        Some(fault) => Err(fault),
-        None => Ok(()),
-    }
+    least.map_or(Ok(()), Err)
 }

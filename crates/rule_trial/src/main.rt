@@ -41,7 +41,7 @@ impl fmt::Display for Fault {
 type Outcome = Result<(), Fault>;
 
 fn load(rule: &mut Rule, text: &[u8]) -> Outcome {
-    rule.load(text).map_err(|fault| Fault::from(fault))
+    Ok(rule.load(text)?)
 }
 
 // What rules are made of: rules of terms, terms of factors.
