@@ -1,4 +1,5 @@
--- A device of the proofs: the machine that goes through a rule text mark by mark and writes down steps.
+-- To believe: nothing. A device of the proofs: the machine that goes through a rule text mark by mark and writes down
+-- steps.
 --
 -- It knows what it expects next (the mode), what waits for the factor that is being read (the level), what waits
 -- outside each open bracket, the innermost first, and the steps so far. In `dead` no mark could be expected.

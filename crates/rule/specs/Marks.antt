@@ -1,4 +1,4 @@
--- A device of the proofs: what the lexer makes of a byte.
+-- To believe: nothing. A device of the proofs: what the lexer makes of a byte.
 
 use Rattle.std.specs.Prelude.{ℕ, ◌-◌, Bool, true, false, cond, ◌==◌}
 use Rattle.grammar.specs.declared.Field.TheVariants.{Class, Rating, Months, Issuer}

@@ -1,4 +1,4 @@
--- A device of the proofs: what the reader does with one mark, and at the end of the text.
+-- To believe: nothing. A device of the proofs: what the reader does with one mark, and at the end of the text.
 
 use Rattle.std.specs.Prelude.{◌≡◌, ℕ, ◌+◌, Bool, true, false, List, length, Ok, Err, Result}
 use Rattle.cause.specs.Numbers.{number as listed}

@@ -1,5 +1,5 @@
--- A device of the proofs: for which cause the reader refuses a mark, from its mode, the number of open brackets and the
--- number of steps before. At one byte the cause of the smaller number comes first.
+-- To believe: nothing. A device of the proofs: for which cause the reader refuses a mark, from its mode, the number of
+-- open brackets and the number of steps before. At one byte the cause of the smaller number comes first.
 
 use Rattle.std.specs.Prelude.{◌≡◌, ℕ, ◌+◌, ◌*◌, Bool, true, false, cond, ◌&&◌, ◌||◌, Ok, Err, Result, ◌==◌, nat_lt}
 use Rattle.cause.specs.declared.Cause.{Cause}

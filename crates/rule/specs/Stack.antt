@@ -1,4 +1,5 @@
--- A device of the proofs: what steps do to a stack of answers. The stack is the bits of a number, the last answer lowest.
+-- To believe: nothing. A device of the proofs: what steps do to a stack of answers. The stack is the bits of a number,
+-- the last answer lowest.
 
 use Rattle.std.specs.Prelude.{ℕ, ◌+◌, ◌*◌, ◌/◌, ◌%◌, Bool, cond, not, ◌&&◌, ◌||◌, List, [], ◌∷◌, ◌==◌}
 use Rattle.grammar.specs.declared.Description.{Description}

@@ -1,4 +1,5 @@
--- A device of the proofs: what the arrays of the code hold, as lists, and the reader as a state of the machine.
+-- To believe: nothing. A device of the proofs: what the arrays of the code hold, as lists, and the reader as a state of
+-- the machine.
 
 use Rattle.std.specs.Prelude.{ℕ, ◌+◌, ◌≤◌, List, length, take, reverse}
 use Rattle.grammar.specs.Grammar.{most_steps}

@@ -3,11 +3,13 @@
 ghost use Rattle.std.specs.Prelude.{◌≤◌};
 
 use crate::descent::{judged, whole};
-use crate::{Outcome, Tally, complain, load};
+use crate::{Outcome, Part, Trial, load, repeat};
 use grammar::Description;
 use rule::Rule;
 use std::alloc::{AllocError, Global};
+use std::collections::BTreeSet;
 use std::io;
+use tally::Tally;
 
 const TEXTS: u32 = 12000;
 
@@ -40,7 +42,7 @@ impl Seed {
 
     fn pick(&mut self, bytes: &[u8]) -> u8 {
         let i = self.below(bytes.len() as u64) as usize;
-        if i < bytes.len() { bytes[i] } else { b'c' }
+        bytes.get(i).copied().unwrap_or(b'c')
     }
 
     fn lot(&mut self) -> Description {
@@ -82,36 +84,36 @@ fn write_number(seed: &mut Seed, text: &mut Vec<u8>) -> Result<(), AllocError> {
     Ok(())
 }
 
-// A rule (level 0), a term (1) or a factor (2). `fuel` bounds the depth.
-fn write(seed: &mut Seed, text: &mut Vec<u8>, level: u8, fuel: u32) -> Result<(), AllocError> {
-    if fuel > 0 && level < 2 {
-        write(seed, text, level + 1, fuel - 1)?;
-        for _ in 0..seed.below(3) {
-            text.push(if level == 0 { b'|' } else { b'&' })?;
-            write(seed, text, level + 1, fuel - 1)?;
-        }
-        return Ok(());
-    }
-    if fuel > 0 && seed.chance(15) {
-        text.push(b'!')?;
-        return write(seed, text, 2, fuel - 1);
-    }
-    if fuel > 0 && seed.chance(25) {
-        text.push(b'(')?;
-        write(seed, text, 0, fuel - 1)?;
-        text.push(b')')?;
-        return Ok(());
-    }
+fn write_test(seed: &mut Seed, text: &mut Vec<u8>) -> Result<(), AllocError> {
     text.push(seed.pick(b"crmi"))?;
     text.push(seed.pick(b"=<>"))?;
     write_number(seed, text)
 }
 
-fn push_times(text: &mut Vec<u8>, byte: u8, times: u64) -> Result<(), AllocError> {
-    for _ in 0..times {
-        text.push(byte)?;
+// A rule, a term or a factor. `fuel` bounds the depth.
+fn write(seed: &mut Seed, text: &mut Vec<u8>, part: Part, fuel: u32) -> Result<(), AllocError> {
+    if fuel == 0 {
+        return write_test(seed, text);
     }
-    Ok(())
+    if let Some((joint, inner)) = part.joint() {
+        write(seed, text, inner, fuel - 1)?;
+        for _ in 0..seed.below(3) {
+            text.push(joint)?;
+            write(seed, text, inner, fuel - 1)?;
+        }
+        return Ok(());
+    }
+    if seed.chance(15) {
+        text.push(b'!')?;
+        return write(seed, text, Part::Factor, fuel - 1);
+    }
+    if seed.chance(25) {
+        text.push(b'(')?;
+        write(seed, text, Part::Rule, fuel - 1)?;
+        text.push(b')')?;
+        return Ok(());
+    }
+    write_test(seed, text)
 }
 
 // A rule within so many brackets and after so many `!`.
@@ -119,28 +121,28 @@ fn wrapped(heap: Global, seed: &mut Seed, fuel: u32) -> Result<Vec<u8>, AllocErr
     let mut text = Vec::new(heap);
     let brackets = if seed.chance(25) { seed.below(20) } else { 0 };
     let nots = if seed.chance(25) { seed.below(70) } else { 0 };
-    push_times(&mut text, b'!', nots)?;
-    push_times(&mut text, b'(', brackets)?;
-    write(seed, &mut text, 0, fuel)?;
-    push_times(&mut text, b')', brackets)?;
+    repeat(&mut text, b"!", nots as usize)?;
+    repeat(&mut text, b"(", brackets as usize)?;
+    write(seed, &mut text, Part::Rule, fuel)?;
+    repeat(&mut text, b")", brackets as usize)?;
     Ok(text)
 }
 
 // The text with a byte changed, put in or left out.
 fn damaged(heap: Global, seed: &mut Seed, text: &[u8]) -> Result<Vec<u8>, AllocError> {
-    let mut other = Vec::new(heap);
     let place = seed.below(text.len() as u64) as usize;
     let way = seed.below(3);
-    for (i, byte) in text.iter().enumerate() {
-        if i != place {
-            other.push(*byte)?;
-        } else if way == 0 {
-            other.push(seed.pick(&BYTES))?;
-        } else if way == 1 {
-            other.push(*byte)?;
-            other.push(seed.pick(&BYTES))?;
-        }
+    let (before, rest) = text.split_at(place);
+    let mut other = Vec::from_slice(heap, before)?;
+    let Some((byte, after)) = rest.split_first() else {
+        return Ok(other);
+    };
+    match way {
+        0 => other.push(seed.pick(&BYTES))?,
+        1 => other.extend_from_slice(&[*byte, seed.pick(&BYTES)])?,
+        _ => {}
     }
+    other.extend_from_slice(after)?;
     Ok(other)
 }
 
@@ -149,10 +151,10 @@ fn long_text(heap: Global, seed: &mut Seed) -> Result<Vec<u8>, AllocError> {
     let mut text = Vec::new(heap);
     let enough = 850 + seed.below(200) as usize;
     for _ in 0..64 {
-        let depth = 14 + seed.below(3);
-        push_times(&mut text, b'(', depth)?;
-        write(seed, &mut text, 2, 0)?;
-        push_times(&mut text, b')', depth)?;
+        let depth = 14 + seed.below(3) as usize;
+        repeat(&mut text, b"(", depth)?;
+        write_test(seed, &mut text)?;
+        repeat(&mut text, b")", depth)?;
         if text.len() >= enough {
             break;
         }
@@ -177,68 +179,46 @@ fn text_of(heap: Global, seed: &mut Seed, turn: u32) -> Result<Vec<u8>, AllocErr
 
 // The answers for some lots.
 fn same_answers(seed: &mut Seed, rule: &Rule, text: &[u8]) -> bool {
-    for _ in 0..8 {
+    (0..8).all(|_| {
         let lot = seed.lot();
-        let right = match whole(text, lot) {
-            Ok(answer) => answer == rule.ask(lot),
-            Err(_) => false,
-        };
-        if !right {
-            return false;
-        }
-    }
-    true
-}
-
-// Which outcomes were met: accepted first, then the causes 5 to 9.
-#[derive(Clone, Copy)]
-struct Met {
-    seen: [bool; 6],
-}
-
-impl Met {
-    fn all(&self) -> bool {
-        let seen = self.seen;
-        seen[0] && seen[1] && seen[2] && seen[3] && seen[4] && seen[5]
-    }
-
-    fn note(&mut self, outcome: Outcome) {
-        let i = if outcome.cause < 4 {
-            0
-        } else {
-            (outcome.cause - 4) as usize
-        };
-        if i < 6 {
-            self.seen[i] = true;
-        }
-    }
+        whole(text, lot) == Ok(rule.ask(lot))
+    })
 }
 
 // One text in both ways.
-fn trial(seed: &mut Seed, text: &[u8], want: Outcome) -> (Outcome, bool) {
+fn tried<'a>(seed: &mut Seed, text: &'a [u8]) -> Trial<'a> {
     let mut rule = Rule::blank();
+    let want = judged(text);
     let got = load(&mut rule, text);
-    let right = got.same(want) && (want.cause != 0 || same_answers(seed, &rule, text));
-    (got, right)
+    let right = got == want && (want.is_err() || same_answers(seed, &rule, text));
+    Trial {
+        text,
+        want,
+        got,
+        right,
+    }
 }
+
+// The number of a fault's cause; none of an accepted text.
+fn kind(outcome: Outcome) -> Option<u8> {
+    outcome.err().map(|fault| fault.number)
+}
+
+const KINDS: [Option<u8>; 6] = [None, Some(5), Some(6), Some(7), Some(8), Some(9)];
 
 pub fn compare(rt: &HostRuntime) -> io::Result<()> {
     let mut seed = Seed {
         state: 0x9e37_79b9_7f4a_7c15,
     };
     let mut texts = Tally::new();
-    let mut met = Met { seen: [false; 6] };
+    let mut met = BTreeSet::new(rt.alloc());
     for turn in 0..TEXTS {
         let text = text_of(rt.alloc(), &mut seed, turn)?;
-        let want = judged(text.as_slice());
-        let (got, right) = trial(&mut seed, text.as_slice(), want);
-        met.note(got);
-        texts.note(right);
-        if !right {
-            complain(rt, text.as_slice(), want, got)?;
-        }
+        let trial = tried(&mut seed, text.as_slice());
+        met.insert(kind(trial.got))?;
+        trial.note(rt, &mut texts)?;
     }
-    texts.report(rt, "made texts")?;
-    let all = met.all();
+    println!(rt; "made texts: {texts}")?;
+    let all = KINDS.iter().all(|kind| met.contains(kind));
     println!(rt; "every outcome met: {all}")
 }

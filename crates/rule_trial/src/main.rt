@@ -7,76 +7,108 @@ mod descent;
 mod made;
 mod table;
 
-use rule::Rule;
-use std::io;
+use rule::{Rule, TextFault};
+use std::alloc::AllocError;
+use std::{fmt, io};
+use tally::Tally;
 
-// How many trials there were, and how many came out as expected.
-#[derive(Clone, Copy)]
-struct Tally {
-    tried: u32,
-    right: u32,
+// Where a text is at fault, and the number that the cause is known by. Of two faults the lesser is the
+// one that is reported.
+#[derive(Clone, Copy, PartialEq, Eq, PartialOrd, Ord, Debug)]
+struct Fault {
+    place: usize,
+    number: u8,
 }
 
-impl Tally {
-    fn new() -> Tally {
-        Tally { tried: 0, right: 0 }
-    }
-
-    fn note(&mut self, right: bool) {
-        self.tried = self.tried.saturating_add(1);
-        if right {
-            self.right = self.right.saturating_add(1);
+impl From<TextFault> for Fault {
+    fn from(fault: TextFault) -> Fault {
+        Fault {
+            place: fault.place,
+            number: fault.cause.number(),
         }
     }
+}
 
-    fn report(&self, rt: &HostRuntime, what: &str) -> io::Result<()> {
-        let tried = self.tried;
-        let right = self.right;
-        println!(rt; "{what}: {tried} tried, {right} as expected")
+impl fmt::Display for Fault {
+    fn fmt<W: fmt::Write>(&self, f: &mut fmt::Formatter<W>) -> fmt::Result {
+        let number = self.number;
+        let place = self.place;
+        write!(f, "{number} at {place}")
     }
 }
 
-// What became of a text: the cause's number and the place of its fault, or 0 and 0 where it was
-// accepted.
-#[derive(Clone, Copy)]
-struct Outcome {
-    cause: u8,
-    place: usize,
-}
-
-const ACCEPTED: Outcome = Outcome { cause: 0, place: 0 };
-
-impl Outcome {
-    fn same(self, other: Outcome) -> bool {
-        self.cause == other.cause && self.place == other.place
-    }
-}
+// What becomes of a text: it is accepted, or refused.
+type Outcome = Result<(), Fault>;
 
 fn load(rule: &mut Rule, text: &[u8]) -> Outcome {
-    match rule.load(text) {
-        Ok(()) => ACCEPTED,
-        Err(fault) => Outcome {
-            cause: fault.cause.number(),
-            place: fault.place,
-        },
+    Ok(rule.load(text)?)
+}
+
+// What rules are made of: rules of terms, terms of factors.
+#[derive(Clone, Copy, PartialEq, Eq, Debug)]
+enum Part {
+    Rule,
+    Term,
+    Factor,
+}
+
+impl Part {
+    // What stands between the parts of a rule and of a term, and what these are.
+    fn joint(self) -> Option<(u8, Part)> {
+        match self {
+            Part::Rule => Some((b'|', Part::Term)),
+            Part::Term => Some((b'&', Part::Factor)),
+            Part::Factor => None,
+        }
     }
 }
 
-// A text that came out otherwise.
-fn complain(rt: &HostRuntime, text: &[u8], want: Outcome, got: Outcome) -> io::Result<()> {
-    for byte in text {
-        let c = if *byte >= 32 && *byte < 127 {
-            *byte as char
-        } else {
-            '?'
-        };
-        print!(rt; "{c}")?;
+// One text that was tried.
+#[derive(Clone, Copy)]
+struct Trial<'a> {
+    text: &'a [u8],
+    want: Outcome,
+    got: Outcome,
+    right: bool,
+}
+
+impl<'a> Trial<'a> {
+    // Counts it, and prints it if it came out otherwise.
+    fn note(&self, rt: &HostRuntime, tally: &mut Tally) -> io::Result<()> {
+        tally.note(self.right);
+        if self.right {
+            return Ok(());
+        }
+        println!(rt; "{self}")
     }
-    let cause = want.cause;
-    let place = want.place;
-    let found = got.cause;
-    let at = got.place;
-    println!(rt; ": {cause} at {place} expected, {found} at {at} found")
+}
+
+impl<'a> fmt::Display for Trial<'a> {
+    fn fmt<W: fmt::Write>(&self, f: &mut fmt::Formatter<W>) -> fmt::Result {
+        for byte in self.text {
+            let shown = if byte.is_ascii_graphic() || *byte == b' ' {
+                *byte as char
+            } else {
+                '?'
+            };
+            write!(f, "{shown}")?;
+        }
+        // an accepted text is shown as 0 at 0
+        let accepted = Fault {
+            place: 0,
+            number: 0,
+        };
+        let want = self.want.err().unwrap_or(accepted);
+        let got = self.got.err().unwrap_or(accepted);
+        write!(f, ": {want} expected, {got} found")
+    }
+}
+
+fn repeat(text: &mut Vec<u8>, part: &[u8], times: usize) -> Result<(), AllocError> {
+    for _ in 0..times {
+        text.extend_from_slice(part)?;
+    }
+    Ok(())
 }
 
 fn main(rt: HostRuntime) -> io::Result<()> {
