@@ -2,7 +2,7 @@
 
 use curve::lot::Terms;
 
-#[derive(Drop)]
+#[derive(PartialEq, Eq, Debug, Drop)]
 pub enum Line {
     // the book's number
     Book(u16),

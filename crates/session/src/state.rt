@@ -56,7 +56,7 @@ impl Stage {
 }
 
 // The stage of the day, the curve card, and the lot places that are taken.
-#[derive(Clone, Copy)]
+#[derive(Clone, Copy, PartialEq, Eq, Debug)]
 pub struct Session {
     stage: Stage,
     card: Card,
