@@ -1,4 +1,4 @@
-pub mod Arrays
+pub mod Lengths
 pub mod Stacks
 pub mod Bytes
 pub mod Moves

@@ -18,7 +18,7 @@ use Rattle.rule.specs.declared.text.Mode.TheVariants.{Want, Named, Signed, Count
 use Rattle.rule.specs.Marks.{mark_of, steps, opens, closes}
 use Rattle.rule.specs.Machine.{State, fresh, rested, anded, ored, flipped, bit, finished, ended, closed, next, scan, waits, wait, weight}
 use Rattle.rule.specs.Machine.State.{dead, at}
-use Rattle.rule.proofs.Arrays.{finished_length, ended_length}
+use Rattle.rule.proofs.Lengths.{finished_length, ended_length}
 use Rattle.rule.proofs.Bytes.{step_same, open_same, close_same}
 
 -- a state in which a factor is complete, or a number that may be
