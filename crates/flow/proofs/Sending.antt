@@ -4,7 +4,7 @@ use Rattle.std.proofs.Common.{◌≡◌, ℕ, ◌+◌, ◌-◌, ◌*◌, ◌/◌
 use Rattle.std.proofs.lemmas.Bool.{cases_lt}
 use Rattle.network.specs.Flow.{Net, Sound, Flow, Less, out_of, into, capacity}
 use Rattle.network.specs.Residual.{room}
-use Rattle.network.specs.Augment.{Onward, Trail, stop, Pushed, Sent}
+use Rattle.network.specs.Augment.{Onward, stop, Pushed, Sent}
 use Rattle.network.proofs.Duality.{source_bound}
 use Rattle.network.proofs.Residual.{room_then, room_else}
 use Rattle.network.proofs.Augment.{push_even, push_odd, trail_less, sent_flow, sent_less}
