@@ -4,13 +4,13 @@ use Rattle.std.proofs.Common.{◌≡◌, ℕ, ◌+◌, ◌-◌, ◌*◌, ◌/◌
 use Rattle.std.proofs.lemmas.Bool.{cases_lt}
 use Rattle.network.specs.Flow.{Net, Sound, Flow, Less, out_of, into, capacity}
 use Rattle.network.specs.Residual.{room}
-use Rattle.network.specs.Augment.{Onward, Trail, stop, Pushed, Sent}
+use Rattle.network.specs.Augment.{Onward, stop, Pushed, Sent}
 use Rattle.network.proofs.Duality.{source_bound}
 use Rattle.network.proofs.Residual.{room_then, room_else}
 use Rattle.network.proofs.Augment.{push_even, push_odd, trail_less, sent_flow, sent_less}
 use Rattle.flow.specs.Lists.{at}
 use Rattle.flow.specs.Lawful.{Lawful}
-use Rattle.flow.specs.Blocking.{Walking, Descended, Least, Filled}
+use Rattle.flow.specs.Blocking.{Walking, Least}
 use Rattle.flow.specs.ListsLemmas.{put}
 use Rattle.flow.proofs.Blocking.{sent_cursors}
 
@@ -38,7 +38,7 @@ module _ (N : Net) (f : List ℕ) (a x : ℕ) (long : length f ≡ N.arcs) (know
 pub record Filling (N : Net) (deg : ℕ → ℕ) (inc : ℕ → ℕ → ℕ) (f₀ f mark cursor path stack : ℕ → ℕ) (d : ℕ) : Type 0 where
   pub flows : Flow N f
   pub only : (b : ℕ) → b < 2 * N.arcs → room N f b < room N f₀ b → Onward N mark b
-  pub state : Descended N deg inc f mark cursor path stack d
+  pub walk : Walking N deg inc f mark cursor path stack d
 
 -- what the source's arcs could still carry
 abbrev pub slack : Net → (ℕ → ℕ) → ℕ
@@ -47,46 +47,42 @@ slack N f = capacity N (eqb N.source) + into N (eqb N.source) f - out_of N (eqb 
 pub slack_less : (N : Net) (f g : ℕ → ℕ) → Sound N → Flow N f → Flow N g → Less N f g → slack N g < slack N f
 slack_less N f g s q q' h = omega (arith, h, source_bound N f s q, source_bound N g s q')
 
-module _ {N : Net} {deg : ℕ → ℕ} {inc : ℕ → ℕ → ℕ} {f₀ f mark cursor path stack : ℕ → ℕ} {d x i : ℕ} (L : Lawful N deg inc) (p : Filling N deg inc f₀ f mark cursor path stack d) (h : 0 < d) (l : Least N f path d x i) where
-  walk : Walking N deg inc f mark cursor path stack d
-  walk = (p.state.found h).0
+-- the search went on
+pub found : {N : Net} {deg : ℕ → ℕ} {inc : ℕ → ℕ → ℕ} {f₀ f cursor path stack cursor' path' stack' : ℕ → ℕ} {mark mark' : List ℕ} {s d : ℕ} → Filling N deg inc f₀ f (at mark) cursor path stack s → mark' ≡ mark → Walking N deg inc f (at mark') cursor' path' stack' d → Filling N deg inc f₀ f (at mark') cursor' path' stack' d
+found {N = N} p e w = record { flows = p.flows; only = λ b k l. subst (λ m. Onward N (at m) b) (sym e) (p.only b k l); walk = w }
 
-  pub found_trail : Trail N f mark path d
-  found_trail = walk.trail
-
-  pub found_deep : d < N.nodes
-  found_deep = walk.deep
-
+-- and came to the sink
+module _ {N : Net} {deg : ℕ → ℕ} {inc : ℕ → ℕ → ℕ} {f₀ f mark cursor path stack : ℕ → ℕ} {d x i : ℕ} (L : Lawful N deg inc) (p : Filling N deg inc f₀ f mark cursor path stack d) (e : stack d ≡ N.sink) (l : Least N f path d x i) where
   at_sink : stop N path d ≡ N.sink
-  at_sink = sym (walk.nodes d (omega arith)) ∙ (p.state.found h).1
+  at_sink = sym (p.walk.nodes d (omega arith)) ∙ e
 
   above : 0 < x
-  above = omega (arith, l.met, walk.trail.roomy i l.inside)
+  above = omega (arith, l.met, p.walk.trail.roomy i l.inside)
 
   module _ (f' : ℕ → ℕ) (t : Sent N f f' mark x (stop N path d)) (along : (j : ℕ) → j < d → room N f' (path j) + x ≡ room N f (path j)) where
     to_sink : Sent N f f' mark x N.sink
     to_sink = subst (λ u. Sent N f f' mark x u) at_sink t
 
-    pub sent_flows : Flow N f'
+    sent_flows : Flow N f'
     sent_flows = sent_flow N f f' mark x p.flows to_sink
 
     pub sent_slack : slack N f' < slack N f
     sent_slack = slack_less N f f' L.sound p.flows sent_flows (sent_less N f f' mark x L.sound to_sink above)
 
-    pub sent_only : (b : ℕ) → b < 2 * N.arcs → room N f' b < room N f₀ b → Onward N mark b
+    sent_only : (b : ℕ) → b < 2 * N.arcs → room N f' b < room N f₀ b → Onward N mark b
     sent_only b k c = elim (cases_lt (room N f' b) (room N f b)) [ inl y ↦ t.only b k y | inr y ↦ p.only b k (omega arith) ]
 
     -- the arcs before the first that was filled still have room
-    pub sent_walk : Walking N deg inc f' mark cursor path stack i
+    sent_walk : Walking N deg inc f' mark cursor path stack i
     sent_walk =
-        let o = trail_less N f mark path d i (omega (arith, l.inside)) walk.trail in
+        let o = trail_less N f mark path d i (omega (arith, l.inside)) p.walk.trail in
         record {
-          cursors = sent_cursors L.listed t walk.cursors;
+          cursors = sent_cursors L.listed t p.walk.cursors;
           trail = record { known = o.known; roomy = λ j k. omega (arith, l.before j k, along j (omega (arith, l.inside))); onward = o.onward; joined = o.joined };
-          nodes = λ j k. walk.nodes j (omega (arith, l.inside));
-          stands = λ j k. walk.stands j (omega (arith, l.inside));
-          deep = omega (arith, l.inside, walk.deep);
+          nodes = λ j k. p.walk.nodes j (omega (arith, l.inside));
+          stands = λ j k. p.walk.stands j (omega (arith, l.inside));
+          deep = omega (arith, l.inside, p.walk.deep);
         }
 
-pub filled : {N : Net} {deg : ℕ → ℕ} {inc : ℕ → ℕ → ℕ} {f₀ f mark cursor path stack : ℕ → ℕ} {d : ℕ} → Filling N deg inc f₀ f mark cursor path stack d → d ≡ 0 → Filled N f₀ f mark
-filled p e = record { flows = p.flows; only = p.only; blocks = p.state.none e }
+    pub sent_filling : Filling N deg inc f₀ f' mark cursor path stack i
+    sent_filling = record { flows = sent_flows; only = sent_only; walk = sent_walk }

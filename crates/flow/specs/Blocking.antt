@@ -1,6 +1,6 @@
 -- To believe: nothing. What a depth-first search with a cursor at each node knows, in the contracts of private functions.
 
-use Rattle.std.specs.Prelude.{◌≡◌, ℕ, ◌+◌, ◌*◌, ◌<◌, ◌≤◌, ◌≢◌}
+use Rattle.std.specs.Prelude.{◌≡◌, ℕ, ◌+◌, ◌*◌, ◌<◌, ◌≤◌, ◌≢◌, Option, Some, None}
 use Rattle.network.specs.Flow.{Net, Flow}
 use Rattle.network.specs.Residual.{to, room}
 use Rattle.network.specs.Augment.{Onward, Trail, stop, Blocked}
@@ -35,10 +35,10 @@ pub record Walking (N : Net) (deg : ℕ → ℕ) (inc : ℕ → ℕ → ℕ) (f 
   pub stands : (i : ℕ) → i < d → (cursor (stack i) < deg (stack i)) × (inc (stack i) (cursor (stack i)) ≡ path i)
   pub deep : d < N.nodes
 
--- its end: r arcs lead to the sink; or there is no more way to it
-pub record Descended (N : Net) (deg : ℕ → ℕ) (inc : ℕ → ℕ → ℕ) (f mark cursor path stack : ℕ → ℕ) (r : ℕ) : Type 0 where
-  pub found : 0 < r → Walking N deg inc f mark cursor path stack r × (stack r ≡ N.sink)
-  pub none : r ≡ 0 → Blocked N f mark
+-- its end: d arcs lead to the sink; or there is no more way to it
+abbrev pub Descended : Net → (ℕ → ℕ) → (ℕ → ℕ → ℕ) → (ℕ → ℕ) → (ℕ → ℕ) → (ℕ → ℕ) → (ℕ → ℕ) → (ℕ → ℕ) → Option ℕ → Type 0
+Descended N deg inc f mark cursor path stack (Some d) = (0 < d) × Walking N deg inc f mark cursor path stack d × (stack d ≡ N.sink)
+Descended N deg inc f mark cursor path stack None = Blocked N f mark
 
 -- x is the least room along the first d arcs of a path, and i the first of them that has it
 pub record Least (N : Net) (f path : ℕ → ℕ) (d x i : ℕ) : Type 0 where

@@ -15,7 +15,7 @@ put xs i x h = (get_or-set_same xs i x 0 h, λ j n. get_or-set_other xs i j x 0 
 pub put_at : (xs : List ℕ) (i x j : ℕ) → i ≡ j → i < length xs → Put (at xs) (at (slice_set xs i x)) j x
 put_at xs i x j e h = subst (λ k. Put (at xs) (at (slice_set xs i x)) k x) e (put xs i x h)
 
-zero_at : (n k : ℕ) → at (replicate n 0) k ≡ 0
+pub zero_at : (n k : ℕ) → at (replicate n 0) k ≡ 0
 zero_at zero k = refl
 zero_at (suc n) zero = refl
 zero_at (suc n) (suc k) = zero_at n k

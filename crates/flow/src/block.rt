@@ -38,8 +38,8 @@ impl<G: Network> Residual<'_, '_, G> {
     }
 
     // Goes on from the node at `d` of the queue, by arcs with room to the next layer each, until it comes to the sink, and returns how
-    // many arcs lead there. A node that has no such arc left is given up. Where the source is given up, it returns 0.
-    fn descend(&self, memory: &mut Memory, d: usize) -> usize
+    // many arcs lead there. A node that has no such arc left is given up. Where the source is given up, there is no more way.
+    fn descend(&self, memory: &mut Memory, mut d: usize) -> Option<usize>
         requires fits { Fits (G.net self.now.network.now) memory.old }
         requires marks { Marks (G.net self.now.network.now) (at memory.old.mark.now) }
         requires midway { Walking (G.net self.now.network.now) (G.deg self.now.network.now) (G.inc self.now.network.now) (at self.now.flow.now) (at memory.old.mark.now) (at memory.old.cursor.now) (at memory.old.path.now) (at memory.old.queue.now) d }
@@ -52,7 +52,6 @@ impl<G: Network> Residual<'_, '_, G> {
         let cursor = &mut *memory.cursor;
         let path = &mut *memory.path;
         let t = self.network.sink();
-        let mut d = d;
         let mut v = stack[d] as usize;
         while v != t {
             let i = self.first_open(mark, v, cursor[v] as usize);
@@ -63,14 +62,14 @@ impl<G: Network> Residual<'_, '_, G> {
                 d += 1;
                 stack[d] = v as u32;
             } else if d == 0 {
-                return 0;
+                return None;
             } else {
                 d -= 1;
                 v = stack[d] as usize;
                 cursor[v] += 1;
             }
         }
-        d
+        Some(d)
     }
 
     // The least room along the first `d` arcs of the path in `memory`, and the place of the first of them that has no more.
@@ -134,10 +133,10 @@ pub(crate) fn block<G: Network>(network: &G, flow: &mut [u64], memory: &mut Memo
 {
     memory.cursor.fill(0);
     memory.queue[0] = network.source() as u32;
-    let mut d = Residual { network, flow }.descend(memory, 0);
-    while d > 0 {
+    let mut start = 0;
+    while let Some(d) = (Residual { network, flow }).descend(memory, start) {
         let (x, first) = Residual { network, flow }.bottleneck(memory, d);
         send(network, flow, memory, d, x);
-        d = Residual { network, flow }.descend(memory, first);
+        start = first;
     }
 }

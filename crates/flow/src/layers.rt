@@ -11,7 +11,7 @@ use crate::residual::Residual;
 
 impl<G: Network> Residual<'_, '_, G> {
     // Settles the arcs of the node that stands at `done` in the queue, and returns how many nodes were queued then.
-    fn spread(&self, memory: &mut Memory, done: usize, count: usize) -> usize
+    fn spread(&self, memory: &mut Memory, done: usize, mut count: usize) -> usize
         requires fits { Fits (G.net self.now.network.now) memory.old }
         requires midway { Bfs (G.net self.now.network.now) (at self.now.flow.now) (at memory.old.mark.now) (at memory.old.queue.now) done count × (done < count) }
         ensures kept { Kept (G.net self.now.network.now) memory.old memory.new }
@@ -19,7 +19,6 @@ impl<G: Network> Residual<'_, '_, G> {
     {
         let mark = &mut *memory.mark;
         let queue = &mut *memory.queue;
-        let mut count = count;
         let v = queue[done] as usize;
         let layer = mark[v] + 1;
         for i in 0..self.network.degree(v) {

@@ -4,14 +4,14 @@ ghost use Rattle.std.specs.Prelude.{◌<◌};
 
 use std::alloc::{AllocError, Global};
 
-#[derive(Clone, Copy, Drop)]
+#[derive(Clone, Copy, PartialEq, Eq, Debug, Drop)]
 pub struct Arc {
     pub tail: usize,
     pub head: usize,
     pub capacity: u64,
 }
 
-#[derive(Drop)]
+#[derive(Debug, Drop)]
 pub struct Graph {
     pub nodes: usize,
     pub source: usize,
@@ -20,7 +20,7 @@ pub struct Graph {
 }
 
 /// Numbers from a seed.
-#[derive(Clone, Copy, Drop)]
+#[derive(Clone, Copy, PartialEq, Eq, Debug, Drop)]
 pub struct Random {
     state: u64,
 }
@@ -47,18 +47,21 @@ impl Random {
     }
 }
 
-/// A network of `nodes` nodes and `arcs` arcs, with capacities below `most`.
-pub fn make(
-    heap: Global,
-    random: &mut Random,
-    nodes: usize,
-    arcs: usize,
-    most: u64,
-) -> Result<Graph, AllocError> {
+/// How many nodes and arcs a network has, and the number that its capacities stay below.
+#[derive(Clone, Copy, PartialEq, Eq, Debug, Drop)]
+pub struct Sizes {
+    pub nodes: usize,
+    pub arcs: usize,
+    pub most: u64,
+}
+
+/// A network of these sizes.
+pub fn make(heap: Global, random: &mut Random, sizes: Sizes) -> Result<Graph, AllocError> {
+    let Sizes { nodes, arcs, most } = sizes;
     let source = random.node(nodes);
     let mut sink = random.node(nodes);
     if sink == source {
-        sink = if source == 0 { 1 } else { 0 };
+        sink = usize::from(source == 0);
     }
     let mut graph = Graph {
         nodes,
@@ -67,13 +70,10 @@ pub fn make(
         arcs: Vec::new(heap),
     };
     for _ in 0..arcs {
-        let tail = random.node(nodes);
-        let head = random.node(nodes);
-        let capacity = random.below(most);
         graph.arcs.push(Arc {
-            tail,
-            head,
-            capacity,
+            tail: random.node(nodes),
+            head: random.node(nodes),
+            capacity: random.below(most),
         })?;
     }
     Ok(graph)

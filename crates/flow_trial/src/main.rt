@@ -4,59 +4,22 @@
 mod graph;
 mod second;
 mod solve;
+mod table;
 
-use graph::{Arc, Graph, Random, make};
+use graph::{Graph, Random, Sizes, make};
 use second::{FEW, SIZE, by_paths, least_cut};
 use solve::solve;
 use std::alloc::Global;
+use table::Case;
 
-// The number at `k`, or 0.
-fn number(numbers: &[u64], k: usize) -> u64 {
-    match numbers.get(k) {
-        Some(x) => *x,
-        None => 0,
-    }
-}
-
-// `nodes source sink`, and then `tail head capacity` for each arc.
-fn graph_of(heap: Global, numbers: &[u64]) -> anyhow::Result<Graph> {
-    let nodes = number(numbers, 0) as usize;
-    let source = number(numbers, 1) as usize;
-    let sink = number(numbers, 2) as usize;
-    let mut graph = Graph {
-        nodes,
-        source,
-        sink,
-        arcs: Vec::new(heap),
-    };
-    for i in 1..numbers.len() / 3 {
-        let tail = number(numbers, 3 * i) as usize;
-        let head = number(numbers, 3 * i + 1) as usize;
-        let capacity = number(numbers, 3 * i + 2);
-        graph.arcs.push(Arc {
-            tail,
-            head,
-            capacity,
-        })?;
-    }
-    Ok(graph)
-}
-
-// A line of the table: a name, three numbers, the expected value, or another word where it is to be refused, and the arcs. Prints what was
-// found, and says whether it is right.
+// Prints what was found for a line of the table, and says whether it is right.
 fn known(rt: HostRuntime, line: &str) -> anyhow::Result<bool> {
     let heap = rt.alloc();
-    let mut name = "";
-    let mut expected: Option<u64> = None;
-    let mut numbers: Vec<u64> = Vec::new(heap);
-    for (i, word) in line.split_whitespace().enumerate() {
-        match i {
-            0 => name = word,
-            4 => expected = word.parse::<u64>().ok(),
-            _ => numbers.push(word.parse::<u64>().unwrap_or(0))?,
-        }
-    }
-    let graph = graph_of(heap, &numbers)?;
+    let Case {
+        name,
+        graph,
+        expected,
+    } = Case::parse(heap, line)?;
     match (solve(heap, &graph)?, expected) {
         (Some(found), Some(value)) => {
             let right = found.sound && found.value == value;
@@ -78,7 +41,7 @@ fn known(rt: HostRuntime, line: &str) -> anyhow::Result<bool> {
 }
 
 // How many networks were tried, on how many the answers agree, and the rounds that they took.
-#[derive(Clone, Copy, Drop)]
+#[derive(Clone, Copy, PartialEq, Eq, Debug, Default, Drop)]
 struct Tally {
     networks: u64,
     agree: u64,
@@ -87,54 +50,50 @@ struct Tally {
 }
 
 impl Tally {
-    fn new() -> Self {
-        Tally {
-            networks: 0,
-            agree: 0,
-            rounds: 0,
-            most: 0,
-        }
-    }
-
     fn count(&mut self, agrees: bool, rounds: u64) {
         self.networks = self.networks.saturating_add(1);
-        if agrees {
-            self.agree = self.agree.saturating_add(1);
-        }
+        self.agree = self.agree.saturating_add(u64::from(agrees));
         self.rounds = self.rounds.saturating_add(rounds);
         self.most = self.most.max(rounds);
     }
 }
 
-// Networks of few nodes, against the least of all their cuts.
-fn against_cuts(heap: Global, random: &mut Random) -> anyhow::Result<Tally> {
-    let mut tally = Tally::new();
-    for _ in 0..4000 {
-        let nodes = 2 + random.below(FEW as u64 - 1) as usize;
-        let arcs = random.below(28) as usize;
-        let most = 1 + random.below(12);
-        let graph = make(heap, random, nodes, arcs, most)?;
-        match solve(heap, &graph)? {
-            Some(answer) => tally.count(
-                answer.sound && answer.value == least_cut(&graph),
-                answer.rounds as u64,
-            ),
-            None => tally.count(false, 0),
-        }
+// Few nodes, so that all cuts can be tried.
+fn few(random: &mut Random) -> Sizes {
+    Sizes {
+        nodes: 2 + random.below(FEW as u64 - 1) as usize,
+        arcs: random.below(28) as usize,
+        most: 1 + random.below(12),
     }
-    Ok(tally)
 }
 
-// Larger networks, against one path after the other.
-fn against_paths(heap: Global, random: &mut Random) -> anyhow::Result<Tally> {
-    let mut tally = Tally::new();
-    for _ in 0..1000 {
-        let arcs = 20 + random.below(100) as usize;
-        let most = 1 + random.below(1000);
-        let graph = make(heap, random, SIZE, arcs, most)?;
+// As many nodes as the search of paths takes.
+fn many(random: &mut Random) -> Sizes {
+    Sizes {
+        nodes: SIZE,
+        arcs: 20 + random.below(100) as usize,
+        most: 1 + random.below(1000),
+    }
+}
+
+// So many networks, of sizes by `sizes`, against another method.
+fn against<S: Fn(&mut Random) -> Sizes, M: Fn(&Graph) -> u64>(
+    heap: Global,
+    random: &mut Random,
+    networks: u32,
+    sizes: S,
+    method: M,
+) -> anyhow::Result<Tally>
+    requires sizes { S.IsAlwaysCallable sizes }
+    requires method { M.IsAlwaysCallable method }
+{
+    let mut tally = Tally::default();
+    for _ in 0..networks {
+        let drawn = sizes(random);
+        let graph = make(heap, random, drawn)?;
         match solve(heap, &graph)? {
             Some(answer) => tally.count(
-                answer.sound && answer.value == by_paths(&graph),
+                answer.sound && answer.value == method(&graph),
                 answer.rounds as u64,
             ),
             None => tally.count(false, 0),
@@ -158,17 +117,24 @@ fn report(rt: HostRuntime, method: &str, tally: Tally) -> anyhow::Result<()> {
 
 fn main(rt: HostRuntime) -> anyhow::Result<()> {
     let heap = rt.alloc();
-    let mut right = 0u64;
-    let mut cases = 0u64;
+    let mut tally = Tally::default();
     for line in rt.lines(heap) {
-        cases = cases.saturating_add(1);
-        if known(rt, line?.as_str())? {
-            right = right.saturating_add(1);
-        }
+        tally.count(known(rt, line?.as_str())?, 0);
     }
-    println!(rt; "known answers: {right} of {cases} right")?;
+    println!(rt;
+        "known answers: {} of {} right",
+        tally.agree, tally.networks
+    )?;
     let mut random = Random::new(0x9e37_79b9_7f4a_7c15);
-    report(rt, "cuts", against_cuts(heap, &mut random)?)?;
-    report(rt, "paths", against_paths(heap, &mut random)?)?;
+    report(
+        rt,
+        "cuts",
+        against(heap, &mut random, 4000, few, least_cut)?,
+    )?;
+    report(
+        rt,
+        "paths",
+        against(heap, &mut random, 1000, many, by_paths)?,
+    )?;
     Ok(())
 }

@@ -1,5 +1,7 @@
 //! Second methods: the least of all cuts, and Ford and Fulkerson's search for one path after the other.
 
+ghost use Rattle.std.specs.Prelude.{ℕ, ◌<◌};
+
 use crate::graph::{Arc, Graph};
 
 /// The most nodes whose cuts are all tried, and the most that the search of paths takes.
@@ -12,24 +14,18 @@ fn has(set: u32, v: usize) -> bool {
 }
 
 fn capacity_of(arcs: &[Arc], set: u32) -> u64 {
-    let mut sum: u64 = 0;
-    for arc in arcs {
-        if has(set, arc.tail) && !has(set, arc.head) {
-            sum = sum.saturating_add(arc.capacity);
-        }
-    }
-    sum
+    arcs.iter()
+        .filter(|arc| has(set, arc.tail) && !has(set, arc.head))
+        .fold(0u64, |sum, arc| sum.saturating_add(arc.capacity))
 }
 
 /// The least capacity of all cuts of a network of few nodes.
 pub fn least_cut(graph: &Graph) -> u64 {
-    let mut least = u64::MAX;
-    for set in 0..1u32 << FEW {
-        if has(set, graph.source) && !has(set, graph.sink) {
-            least = least.min(capacity_of(&graph.arcs, set));
-        }
-    }
-    least
+    (0..1u32 << FEW)
+        .filter(|&set| has(set, graph.source) && !has(set, graph.sink))
+        .map(|set| capacity_of(&graph.arcs, set))
+        .min()
+        .unwrap_or(u64::MAX)
 }
 
 type Matrix = [[u64; SIZE]; SIZE];
@@ -45,23 +41,24 @@ fn matrix_of(arcs: &[Arc]) -> Matrix {
     matrix
 }
 
+// From which node each node was reached; the source from itself.
+type Parents = [Option<usize>; SIZE];
+
 // One more look at each pair: a node that an open pair leads to, from a node that was reached, is reached from there.
-fn widen(matrix: &Matrix, parent: &mut [usize; SIZE]) {
-    for u in 0..SIZE {
-        for v in 0..SIZE {
-            let from = parent[u];
-            let to = parent[v];
-            if from < SIZE && to >= SIZE && matrix[u][v] > 0 {
-                parent[v] = u;
+fn widen(matrix: &Matrix, parent: &mut Parents) {
+    for (u, row) in matrix.iter().enumerate() {
+        for (v, &room) in row.iter().enumerate() {
+            if parent[u].is_some() && parent[v].is_none() && room > 0 {
+                parent[v] = Some(u);
             }
         }
     }
 }
 
-fn parents(matrix: &Matrix, source: usize) -> [usize; SIZE] {
-    let mut parent = [SIZE; SIZE];
+fn parents(matrix: &Matrix, source: usize) -> Parents {
+    let mut parent = [None; SIZE];
     if source < SIZE {
-        parent[source] = source;
+        parent[source] = Some(source);
     }
     for _ in 0..SIZE {
         widen(matrix, &mut parent);
@@ -69,37 +66,22 @@ fn parents(matrix: &Matrix, source: usize) -> [usize; SIZE] {
     parent
 }
 
-fn narrowest(matrix: &Matrix, parent: &[usize; SIZE], source: usize, sink: usize) -> u64 {
-    let mut least = u64::MAX;
+// Visits each pair of the path from the source to the sink, from its end.
+fn along<F: FnMut(usize, usize)>(parent: &Parents, source: usize, sink: usize, mut visit: F)
+    requires { (state : F) (u v : ℕ) → u < SIZE → v < SIZE → F.pre state u v }
+{
     let mut v = sink;
     for _ in 0..SIZE {
         if v >= SIZE || v == source {
             break;
         }
-        let u = parent[v];
-        if u >= SIZE {
-            return 0;
-        }
-        least = least.min(matrix[u][v]);
-        v = u;
-    }
-    least
-}
-
-fn send(matrix: &mut Matrix, parent: &[usize; SIZE], source: usize, sink: usize, x: u64) {
-    let mut v = sink;
-    for _ in 0..SIZE {
-        if v >= SIZE || v == source {
+        let Some(u) = parent[v] else {
             break;
-        }
-        let u = parent[v];
+        };
         if u >= SIZE {
             break;
         }
-        let there = matrix[u][v];
-        let back = matrix[v][u];
-        matrix[u][v] = there.saturating_sub(x);
-        matrix[v][u] = back.saturating_add(x);
+        visit(u, v);
         v = u;
     }
 }
@@ -107,15 +89,21 @@ fn send(matrix: &mut Matrix, parent: &[usize; SIZE], source: usize, sink: usize,
 /// The value of a maximum flow of a network of up to `SIZE` nodes, by one path after the other.
 pub fn by_paths(graph: &Graph) -> u64 {
     let mut matrix = matrix_of(&graph.arcs);
-    let mut value: u64 = 0;
+    let mut value = 0u64;
     for _ in 0..100_000 {
         let parent = parents(&matrix, graph.source);
-        let x = narrowest(&matrix, &parent, graph.source, graph.sink);
-        if x == 0 {
+        if graph.sink >= SIZE || parent[graph.sink].is_none() {
             break;
         }
-        send(&mut matrix, &parent, graph.source, graph.sink, x);
-        value = value.saturating_add(x);
+        let mut least = u64::MAX;
+        along(&parent, graph.source, graph.sink, |u, v| {
+            least = least.min(matrix[u][v]);
+        });
+        along(&parent, graph.source, graph.sink, |u, v| {
+            matrix[u][v] = matrix[u][v].saturating_sub(least);
+            matrix[v][u] = matrix[v][u].saturating_add(least);
+        });
+        value = value.saturating_add(least);
     }
     value
 }

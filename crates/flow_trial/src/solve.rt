@@ -1,10 +1,12 @@
 //! The library's answer, and whether it holds together.
 
 use crate::graph::{Arc, Graph};
-use flow::{ArcList, MAX_NODES, StoredNetwork, Unfit, maximize, maximize_from_zero, reached};
+use flow::{
+    ArcList, MAX_NODES, Memory, StoredNetwork, Unfit, maximize, maximize_from_zero, reached,
+};
 use std::alloc::{AllocError, Global};
 
-#[derive(Clone, Copy, Drop)]
+#[derive(Clone, Copy, PartialEq, Eq, Debug, Drop)]
 pub struct Answer {
     pub value: u64,
     pub rounds: usize,
@@ -13,62 +15,48 @@ pub struct Answer {
 
 fn store(graph: &Graph) -> Result<StoredNetwork, Unfit> {
     let mut list = ArcList::new(graph.nodes, graph.source, graph.sink)?;
-    for arc in graph.arcs.iter() {
+    for arc in &graph.arcs {
         list.add_arc(arc.tail, arc.head, arc.capacity)?;
     }
     Ok(StoredNetwork::new(list))
 }
 
-fn leaving(arcs: &[Arc], flow: &[u64], v: usize) -> u64 {
-    let mut sum: u64 = 0;
-    for (arc, x) in arcs.iter().zip(flow.iter()) {
-        if arc.tail == v {
+// What `flow` sends along the arcs whose end, by `end`, is `v`.
+fn through<E: Fn(&Arc) -> usize>(end: E, arcs: &[Arc], flow: &[u64], v: usize) -> u64
+    requires { E.IsAlwaysCallable end }
+{
+    let mut sum = 0u64;
+    for (arc, x) in arcs.iter().zip(flow) {
+        if end(arc) == v {
             sum = sum.saturating_add(*x);
         }
     }
     sum
 }
 
-fn entering(arcs: &[Arc], flow: &[u64], v: usize) -> u64 {
-    let mut sum: u64 = 0;
-    for (arc, x) in arcs.iter().zip(flow.iter()) {
-        if arc.head == v {
-            sum = sum.saturating_add(*x);
-        }
-    }
-    sum
+fn leaving(graph: &Graph, flow: &[u64], v: usize) -> u64 {
+    through(|arc| arc.tail, &graph.arcs, flow, v)
+}
+
+fn entering(graph: &Graph, flow: &[u64], v: usize) -> u64 {
+    through(|arc| arc.head, &graph.arcs, flow, v)
 }
 
 fn within(arcs: &[Arc], flow: &[u64]) -> bool {
-    for (arc, x) in arcs.iter().zip(flow.iter()) {
-        if *x > arc.capacity {
-            return false;
-        }
-    }
-    true
+    arcs.iter().zip(flow).all(|(arc, x)| *x <= arc.capacity)
 }
 
 fn conserved(graph: &Graph, flow: &[u64]) -> bool {
-    for v in 0..graph.nodes {
-        if v != graph.source
-            && v != graph.sink
-            && leaving(&graph.arcs, flow, v) != entering(&graph.arcs, flow, v)
-        {
-            return false;
-        }
-    }
-    true
+    (0..graph.nodes)
+        .filter(|&v| v != graph.source && v != graph.sink)
+        .all(|v| leaving(graph, flow, v) == entering(graph, flow, v))
 }
 
 // What the arcs out of the nodes that are reached can carry.
 fn cut(arcs: &[Arc], mark: &[u32]) -> u64 {
-    let mut sum: u64 = 0;
-    for arc in arcs {
-        if reached(mark, arc.tail) && !reached(mark, arc.head) {
-            sum = sum.saturating_add(arc.capacity);
-        }
-    }
-    sum
+    arcs.iter()
+        .filter(|arc| reached(mark, arc.tail) && !reached(mark, arc.head))
+        .fold(0u64, |sum, arc| sum.saturating_add(arc.capacity))
 }
 
 fn examine(graph: &Graph, network: &StoredNetwork, flow: &mut [u64]) -> Option<Answer> {
@@ -76,17 +64,16 @@ fn examine(graph: &Graph, network: &StoredNetwork, flow: &mut [u64]) -> Option<A
     let mut queue = [0u32; MAX_NODES];
     let mut cursor = [0u32; MAX_NODES];
     let mut path = [0u32; MAX_NODES];
-    let first = maximize_from_zero(
-        network,
-        flow,
-        &mut mark,
-        &mut queue,
-        &mut cursor,
-        &mut path,
-    ).ok()?;
-    let rounds = maximize(network, flow, &mut mark, &mut queue, &mut cursor, &mut path).ok()?;
-    let value = leaving(&graph.arcs, flow, graph.source).saturating_sub(entering(
-        &graph.arcs,
+    let mut memory = Memory {
+        mark: &mut mark,
+        queue: &mut queue,
+        cursor: &mut cursor,
+        path: &mut path,
+    };
+    let first = maximize_from_zero(network, flow, &mut memory).ok()?;
+    let rounds = maximize(network, flow, &mut memory).ok()?;
+    let value = leaving(graph, flow, graph.source).saturating_sub(entering(
+        graph,
         flow,
         graph.source,
     ));

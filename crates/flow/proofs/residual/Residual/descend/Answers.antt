@@ -1,4 +1,5 @@
-use Rattle.std.proofs.Common.{◌+◌, sym, refl, ap, ◌∙◌, arith}
+use Rattle.std.proofs.Common.{◌≡◌, ◌+◌, sym, refl, ap, ◌∙◌, inl, inr, arith}
+use Rattle.std.proofs.lemmas.Bool.{cases_lt}
 use Rattle.flow.specs.Lists.{at}
 use Rattle.flow.specs.ListsLemmas.{put}
 use Rattle.flow.proofs.Blocking.{listed_target, end_in, walk_none, scan, scan_at, scan_left, scan_deep, scan_on, back_in, back_walk, back_left}
@@ -58,11 +59,8 @@ loop-v-preserved-then-i-degree g c =
 
 pub returns-then-d-eq0-clause-descended : goal.returns-then-d-eq0-clause-descended
 returns-then-d-eq0-clause-descended g c =
-    record {
-      found = λ h. absurd (omega arith);
-      none = λ _. walk_none (g.met.G.Network.lawful c.args.self.now.network.now) c.requires.marks (scan (g.met.G.Network.lawful c.args.self.now.network.now) c.requires.marks c.loop-v.cursor c.loop-v.invariant c.first_open-i.ensures (omega (arith, c.requires.fits))) c.loop-v.v c.loop-v.invariant.1 c.if-d-eq0.true (λ e. c.loop-v-test.true (e ∙ sym c.sink-t.ensures))
-          (omega (arith, scan_at (g.met.G.Network.lawful c.args.self.now.network.now) c.requires.marks c.loop-v.cursor c.loop-v.invariant c.first_open-i.ensures (omega (arith, c.requires.fits)), c.degree.ensures, c.if-i-degree.false));
-    }
+    walk_none (g.met.G.Network.lawful c.args.self.now.network.now) c.requires.marks (scan (g.met.G.Network.lawful c.args.self.now.network.now) c.requires.marks c.loop-v.cursor c.loop-v.invariant c.first_open-i.ensures (omega (arith, c.requires.fits))) c.loop-v.v c.loop-v.invariant.1 c.if-d-eq0.true (λ e. c.loop-v-test.true (e ∙ sym c.sink-t.ensures))
+    (omega (arith, scan_at (g.met.G.Network.lawful c.args.self.now.network.now) c.requires.marks c.loop-v.cursor c.loop-v.invariant c.first_open-i.ensures (omega (arith, c.requires.fits)), c.degree.ensures, c.if-i-degree.false))
 
 pub bounds-cursor-v-else-d-eq0 : goal.bounds-cursor-v-else-d-eq0
 bounds-cursor-v-else-d-eq0 g c = let h = back_in (g.met.G.Network.lawful c.args.self.now.network.now) c.requires.marks c.loop-v.cursor c.loop-v.invariant c.first_open-i.ensures (omega (arith, c.requires.fits)) (omega (arith, c.if-d-eq0.false)) in omega (arith, h)
@@ -85,7 +83,12 @@ loop-v-preserved g c =
     (back_walk (g.met.G.Network.lawful c.args.self.now.network.now) c.requires.marks c.loop-v.cursor c.loop-v.invariant c.first_open-i.ensures (omega (arith, c.requires.fits)) (omega (arith, c.if-d-eq0.false)) (λ e. c.loop-v-test.true (e ∙ sym c.sink-t.ensures)) (omega (arith, c.degree.ensures, c.if-i-degree.false)), refl)
 
 pub returns-clause-descended : goal.returns-clause-descended
-returns-clause-descended g c = record {
-  found = λ h. (c.loop-v.invariant.0, sym c.loop-v.invariant.1 ∙ c.loop-v-test.false ∙ c.sink-t.ensures);
-  none = λ e. absurd ((g.met.G.Network.lawful c.args.self.now.network.now).sound.apart (sym (c.loop-v.invariant.0.nodes 0 (omega arith)) ∙ ap (at c.loop-v.stack) (sym e) ∙ sym c.loop-v.invariant.1 ∙ c.loop-v-test.false ∙ c.sink-t.ensures));
-}
+returns-clause-descended g c =
+    let e : at c.loop-v.stack c.loop-v.d ≡ (g.G.Network.net c.args.self.now.network.now).sink = sym c.loop-v.invariant.1 ∙ c.loop-v-test.false ∙ c.sink-t.ensures in (
+      elim (cases_lt 0 c.loop-v.d) [
+        | inl y ↦ y
+        | inr y ↦ absurd ((g.met.G.Network.lawful c.args.self.now.network.now).sound.apart (sym (c.loop-v.invariant.0.nodes 0 (omega arith)) ∙ ap (at c.loop-v.stack) (omega arith) ∙ e))
+      ],
+      c.loop-v.invariant.0,
+      e,
+    )
