@@ -23,7 +23,7 @@ loop-set-preserved c =
     let more = length_push c.loop-set.yielded c.in-Some.set in (
       omega (arith, more, t.0),
       subst (λ k. c.push-word.result ≡ word c.args.flags.now (min (length c.args.flags.now) 64 - k) k) (sym more)
-      (word_more c.args.flags.now (min (length c.args.flags.now) 64) (length c.loop-set.yielded) c.loop-set.word c.push-word.result c.in-Some.set.now t.0 c.loop-set.invariant.1 t.1 c.push-word.ensures),
+          (word_more c.args.flags.now (min (length c.args.flags.now) 64) (length c.loop-set.yielded) c.loop-set.word c.push-word.result c.in-Some.set.now t.0 c.loop-set.invariant.1 t.1 c.push-word.ensures),
     )
 
 pub returns-clause-bits : goal.returns-clause-bits

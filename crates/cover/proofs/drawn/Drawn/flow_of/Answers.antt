@@ -29,10 +29,11 @@ loop-k-preserved c =
     let P : Loading → Type 0 = λ l. (l.drawn.now ≡ c.args.self.now) × ((k : ℕ) → at l.flow k ≡ front (pictured c.args.self.now) c.args.table.now (c.loop-k.k + 1) k) in
     elim c.else-pledge-gt0.branch [
       | else-pledge-gt0-via-then-pledge-gt0+else-not-carry w ↦
-          subst P (sym w.loading-is)
-          (ap (λ (r : Bor Drawn). r.now) w.carry.ensures.drawn ∙ c.loop-k.invariant.0,
-          load_more (pictured c.args.self.now) c.args.table.now c.loop-k.k p c.of.ensures.0 c.of.ensures.1 refl c.loop-k.loading.flow w.carry.new.self.flow c.loop-k.invariant.1
-          (subst (λ d. Adds (pictured d) p c.loop-k.loading.flow w.carry.new.self.flow) c.loop-k.invariant.0 (w.carry.ensures.carried w.if-not-carry.false)))
+          subst P (sym w.loading-is) (
+            ap (λ (r : Bor Drawn). r.now) w.carry.ensures.drawn ∙ c.loop-k.invariant.0,
+            load_more (pictured c.args.self.now) c.args.table.now c.loop-k.k p c.of.ensures.0 c.of.ensures.1 refl c.loop-k.loading.flow w.carry.new.self.flow c.loop-k.invariant.1
+                (subst (λ d. Adds (pictured d) p c.loop-k.loading.flow w.carry.new.self.flow) c.loop-k.invariant.0 (w.carry.ensures.carried w.if-not-carry.false)),
+          )
       | else-pledge-gt0-via-else-pledge-gt0 w ↦
           subst P (sym w.loading-is)
           (c.loop-k.invariant.0, load_skip (pictured c.args.self.now) c.args.table.now c.loop-k.k p c.of.ensures.0 c.of.ensures.1 refl c.loop-k.loading.flow w.if-pledge-gt0.false c.loop-k.invariant.1)
