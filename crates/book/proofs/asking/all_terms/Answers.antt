@@ -1,4 +1,4 @@
-use Rattle.std.proofs.Common.{◌≡◌, ℕ, ◌/◌, ◌%◌, ◌<◌, ◌^◌, false, sym, refl, subst, arith, rules}
+use Rattle.std.proofs.Common.{◌≡◌, ◌/◌, ◌%◌, ◌<◌, ◌^◌, false, sym, refl, subst, arith, rules}
 use Rattle.cover.specs.declared.problem.Terms.{Terms}
 use Rattle.cover.specs.Lists.{fill_more}
 use Rattle.calls.specs.State.{lot_at, exposure_at}
