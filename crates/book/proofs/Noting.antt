@@ -1,6 +1,6 @@
 -- Answers that are written down one after the other, and what they amount to.
 
-use Rattle.std.proofs.Common.{◌≡◌, ℕ, ◌+◌, ◌*◌, ◌/◌, ◌%◌, ◌^◌, ◌<◌, ◌≤◌, Bool, true, false, ◌&&◌, eqb, List, length, get_or, set, is_some, Some, None, Option, option_map, sym, refl, ap, ◌∙◌, subst, inl, inr, arith, eq-eqb, get_or-set_same, get_or-set_other}
+use Rattle.std.proofs.Common.{◌≡◌, ℕ, ◌+◌, ◌*◌, ◌/◌, ◌%◌, ◌^◌, ◌<◌, Bool, true, false, ◌&&◌, eqb, List, length, get_or, set, is_some, Some, None, Option, option_map, sym, refl, ap, ◌∙◌, subst, inl, inr, arith, eq-eqb, get_or-set_same, get_or-set_other}
 use Rattle.std.proofs.lemmas.Bool.{eqb-true, cases_eq, cases_lt}
 use Rattle.std.proofs.lemmas.List.{get_or_past}
 use Rattle.binder.specs.Meaning.{Meaning}
@@ -14,7 +14,7 @@ use Rattle.cover.specs.View.{lot_at as held_lot_at, exposure_at as amount_at, is
 use Rattle.curve.specs.declared.lot.Lot.{Lot}
 use Rattle.calls.specs.declared.Exposure.{Exposure}
 use Rattle.calls.specs.State.{lot_at, exposure_at, held_at, open_at}
-use Rattle.calls.specs.Situation.{issuer_of, worth_of, amount_of, admits_of, limit_of, situation_of}
+use Rattle.calls.specs.Situation.{issuer_of, worth_of, amount_of, limit_of, situation_of}
 use Rattle.book.specs.Kept.{Worths, Amounts}
 use Rattle.book.specs.Asked.{held_as, limit_for, terms_for}
 

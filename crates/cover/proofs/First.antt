@@ -1,8 +1,8 @@
 -- The smallest held lot place of each issuer, kept while the lots are gone through.
 
-use Rattle.std.proofs.Common.{◌≡◌, ℕ, ◌+◌, ◌<◌, ◌≤◌, Bool, true, false, List, Some, None, Option, length, get_or, set, replicate, unwrap_or, refl, sym, ap, ◌∙◌, subst, inl, inr, arith, get_or-set_same, get_or-set_other}
+use Rattle.std.proofs.Common.{◌≡◌, ℕ, ◌+◌, ◌<◌, true, Some, None, Option, replicate, unwrap_or, sym, ap, ◌∙◌, subst, arith}
 use lib.ListN.{get_or-replicate}
-use Rattle.std.proofs.lemmas.Bool.{cases_eq, eq-eqb, ne_eqb, and_left, and_right, and_from}
+use Rattle.std.proofs.lemmas.Bool.{eq-eqb, and_from}
 use Rattle.table.specs.Table.{Situation, of_issuer}
 use Rattle.table.specs.Drawn.{slot, least}
 use Rattle.table.proofs.Slots.{least_first, slot_issuer}

@@ -100,6 +100,7 @@ impl Problem {
         requires { Slotted (seen self.now) slots.now }
         ensures { Capacities (seen self.now) result }
     {
+        // A loop, not `array::from_fn`, whose contract at so many places does not say that the closure keeps what it borrows.
         let mut capacities = [0u64; ARCS];
         for (k, capacity) in capacities.iter_mut().enumerate() {
             *capacity = self.bears_at(slots, k);
@@ -134,6 +135,7 @@ impl Problem {
 }
 
 // The lots of each slot: `counts[t]` of them have the slot `t`, and stand in the row of 64 places of `t`.
+// Rows with their counts beside them, since memory is fixed and a slot may have 64 lots or none.
 fn rows(slots: &[usize; 64], members: &mut [u8; 4096], counts: &mut [usize; 64])
     requires { (((l : ℕ) → l < 64 → at slots.now l < 64)) × (((t : ℕ) → t < 64 → at counts.old t ≡ 0)) }
     ensures { Rows slots.now members.new counts.new 64 }

@@ -54,9 +54,7 @@ impl Loading<'_> {
         ensures is { result ≡ place (bound (slot (pictured self.now.drawn.now) pair.lot) pair.exposure) }
         ensures low { result < 2112 }
     {
-        let lot = self.drawn.slot_of(pair.lot);
-        let exposure = pair.exposure;
-        Pair { lot, exposure }.bound()
+        Pair::new(self.drawn.slot_of(pair.lot), pair.exposure).bound()
     }
 
     // Whether each arc on the path of a pledge can carry it.

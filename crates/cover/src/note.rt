@@ -26,6 +26,7 @@ fn word<const N: usize, F: Fn(usize) -> bool>(marked: F) -> u64
     ensures bits { (p : ℕ) → p < N → F.post marked p (bit result p) }
     ensures low { result < 2 ^ N }
 {
+    // A loop, as in drawing.rt.
     let mut flags = [false; N];
     for (p, flag) in flags.iter_mut().enumerate() {
         *flag = marked(p);
@@ -59,7 +60,7 @@ impl Reached<'_> {
     {
         let held = self.drawn.problem.lots[lot].is_some();
         let leads = held && self.drawn.slots[lot] == lot;
-        let cell = Pair { lot, exposure }.cell();
+        let cell = Pair::new(lot, exposure).cell();
         self.exposure_marked(exposure) && leads && self.mark[cell] > 0
     }
 

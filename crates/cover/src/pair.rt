@@ -39,15 +39,19 @@ pub struct Pair {
 }
 
 impl Pair {
+    pub fn new(lot: usize, exposure: usize) -> Pair
+        requires { (lot < 64) × (exposure < 16) }
+        ensures { (result.lot ≡ lot) × (result.exposure ≡ exposure) }
+    {
+        Pair { lot, exposure }
+    }
+
     // The pair of number `k`.
     pub fn of(k: usize) -> Pair
         requires { k < 1024 }
         ensures { (result.lot ≡ k / 16) × (result.exposure ≡ k % 16) }
     {
-        Pair {
-            lot: k / EXPOSURES,
-            exposure: k % EXPOSURES,
-        }
+        Pair::new(k / EXPOSURES, k % EXPOSURES)
     }
 
     pub fn number(self) -> usize

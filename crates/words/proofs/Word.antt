@@ -1,8 +1,9 @@
 -- A word is read from its highest place down: twice what was read so far, and one more where the flag is set. So what is read from
 -- a place on is a number whose bit 0 is that place's flag, and whose half is what was read from the next place on.
 
-use Rattle.std.proofs.Common.{◌≡◌, ℕ, zero, suc, ◌+◌, ◌-◌, ◌*◌, ◌/◌, ◌%◌, ◌^◌, ◌<◌, ◌≤◌, Bool, true, false, cond, eqb, List, get_or, sym, ap, ◌∙◌, subst, pow-suc, add-one, one-add, arith, pow_mono}
+use Rattle.std.proofs.Common.{◌≡◌, ℕ, zero, suc, ◌+◌, ◌-◌, ◌*◌, ◌/◌, ◌%◌, ◌^◌, ◌<◌, ◌≤◌, Bool, true, false, cond, eqb, List, length, get_or, take, reverse, refl, sym, ap, ◌∙◌, subst, pow-suc, add-one, one-add, arith, pow_mono}
 use Rattle.std.proofs.lemmas.Bool.{eq-eqb, ne_eqb}
+use Rattle.std.proofs.lemmas.List.{length-take, length-reverse, get_or-reverse, get_or-take, get_or_default}
 use Rattle.std.proofs.lemmas.Nat.{shr-shr, shr_below}
 use Rattle.words.specs.Word.{bit}
 
@@ -49,14 +50,28 @@ bit_past w n p h l =
     let z : w / 2 ^ p < 1 = shr_below w 0 p (subst (λ k. w < 2 ^ k) e (omega arith)) in
     ne_eqb (w / 2 ^ p % 2) 1 (λ q. omega arith)
 
--- one more place, from the highest down
-pub word_more : (flags : List Bool) (n i : ℕ) → i < n → word flags i (n - i) ≡ cond (get_or flags i false) 1 0 + 2 * word flags (i + 1) (n - (i + 1))
+pub word_none : (flags : List Bool) (i : ℕ) → word flags i 0 ≡ 0
 unfolding word
-word_more flags n i h = let e : n - i ≡ suc (n - (i + 1)) = omega arith in ap (word flags i) e ∙ ap (λ k. cond (get_or flags i false) 1 0 + 2 * word flags k (n - (i + 1))) (sym (add-one i))
+word_none flags i = refl
 
-pub word_none : (flags : List Bool) (n : ℕ) → word flags n (n - n) ≡ 0
+-- all n places
+pub word_whole : (flags : List Bool) (n j w : ℕ) → j ≡ n → w ≡ word flags (n - j) j → w ≡ word flags 0 n
+word_whole flags n j w e h = let z : n - j ≡ 0 = omega arith in h ∙ ap (λ i. word flags i j) z ∙ ap (word flags 0) e
+
+-- one more of n places, from the highest down, where j were read before
+pub word_more : (flags : List Bool) (n j w x : ℕ) (b : Bool) → j < n → w ≡ word flags (n - j) j → b ≡ get_or flags (n - (j + 1)) false → x ≡ cond b 1 0 + 2 * w → x ≡ word flags (n - (j + 1)) (j + 1)
 unfolding word
-word_none flags n = let e : n - n ≡ 0 = omega arith in ap (word flags n) e
+word_more flags n j w x b h e f g =
+    let d : n - j ≡ suc (n - (j + 1)) = omega arith in
+    g ∙ ap (λ b. cond b 1 0 + 2 * w) f ∙ ap (λ v. cond (get_or flags (n - (j + 1)) false) 1 0 + 2 * v) (e ∙ ap (λ i. word flags i j) d) ∙ ap (word flags (n - (j + 1))) (sym (add-one j))
 
-pub word_low : (flags : List Bool) (n i : ℕ) → n ≤ 64 → 0 < i → word flags i (n - i) < 2 ^ 63
-word_low flags n i h j = let m : 2 ^ (n - i) ≤ 2 ^ 63 = let l : n - i ≤ 63 = omega arith in pow_mono l in omega (arith, word_below flags i (n - i))
+-- the flag that is read there
+pub next_flag : (flags : List Bool) (n j : ℕ) (b : Bool) → n ≤ length flags → (j < length (reverse (take n flags))) × (b ≡ get_or (reverse (take n flags)) j b) → (j < n) × (b ≡ get_or flags (n - (j + 1)) false)
+next_flag flags n j b l h =
+    let len : length (take n flags) ≡ n = length-take n flags ∙ omega arith in
+    let low : j < n = omega (arith, h.0, length-reverse (take n flags), len) in
+    let place : length (take n flags) - 1 - j ≡ n - (j + 1) = omega arith in
+    (low, h.1 ∙ get_or-reverse (take n flags) j b (omega arith) ∙ ap (λ k. get_or (take n flags) k b) place ∙ get_or-take n flags (n - (j + 1)) b (omega arith) ∙ get_or_default flags (n - (j + 1)) b false (omega arith))
+
+pub word_low : (flags : List Bool) (i n : ℕ) → n < 64 → word flags i n < 2 ^ 63
+word_low flags i n h = let m : 2 ^ n ≤ 2 ^ 63 = let l : n ≤ 63 = omega arith in pow_mono l in omega (arith, word_below flags i n)

@@ -17,12 +17,9 @@ pub fn pack(flags: &[bool]) -> u64
     ensures bits { (p : ℕ) → p < 64 → bit result p ≡ slice_index_or flags.now p false }
     ensures low { result < 2 ^ length flags.now }
 {
-    let mut word = 0u64;
-    let mut place = flags.len().min(64);
-    while place > 0 {
-        place -= 1;
-        let set = flags[place];
-        word = push(word, set);
+    let mut word = 0;
+    for set in flags[..flags.len().min(64)].iter().rev() {
+        word = push(word, *set);
     }
     word
 }

@@ -65,23 +65,15 @@ impl Drawn<'_> {
     {
         match node {
             Node::Source => ahead(i),
-            Node::Lot(lot) if i < EXPOSURES => ahead(Pair { lot, exposure: i }.offer()),
-            Node::Lot(lot) => back(lot),
+            Node::Lot(l) if i < EXPOSURES => ahead(Pair::new(l, i).offer()),
+            Node::Lot(l) => back(l),
             Node::Cell(pair) if i == 0 => ahead(pair.bound()),
             Node::Cell(pair) => {
                 let lot = self.member(pair.lot, i - 1);
-                back(Pair {
-                    lot,
-                    exposure: pair.exposure,
-                }
-                .offer())
+                back(Pair::new(lot, pair.exposure).offer())
             }
             Node::Exposure(e) if i == 0 => ahead(DEMANDS + e),
-            Node::Exposure(exposure) => back(Pair {
-                lot: i - 1,
-                exposure,
-            }
-            .bound()),
+            Node::Exposure(e) => back(Pair::new(i - 1, e).bound()),
             Node::Sink => back(DEMANDS + i),
         }
     }
@@ -93,19 +85,12 @@ impl Drawn<'_> {
     {
         match node {
             Node::Source => LOT_NODES + i,
-            Node::Lot(l) if i < EXPOSURES => {
-                let lot = self.slot_of(l);
-                Pair { lot, exposure: i }.cell()
-            }
+            Node::Lot(l) if i < EXPOSURES => Pair::new(self.slot_of(l), i).cell(),
             Node::Lot(_) => 0,
             Node::Cell(pair) if i == 0 => EXPOSURE_NODES + pair.exposure,
             Node::Cell(pair) => LOT_NODES + self.member(pair.lot, i - 1),
             Node::Exposure(_) if i == 0 => SINK,
-            Node::Exposure(exposure) => Pair {
-                lot: i - 1,
-                exposure,
-            }
-            .cell(),
+            Node::Exposure(e) => Pair::new(i - 1, e).cell(),
             Node::Sink => EXPOSURE_NODES + i,
         }
     }

@@ -1,4 +1,4 @@
-use Rattle.std.proofs.Common.{◌≡◌, ℕ, ◌/◌, ◌%◌, ◌<◌, ◌^◌, false, sym, refl, subst, arith, rules}
+use Rattle.std.proofs.Common.{◌≡◌, ◌/◌, ◌%◌, ◌<◌, ◌^◌, false, sym, refl, subst, arith, rules}
 use Rattle.cover.specs.declared.problem.Terms.{Terms}
 use Rattle.cover.specs.Lists.{fill_more}
 use Rattle.calls.specs.State.{lot_at, exposure_at}
@@ -18,6 +18,6 @@ pub loop-k-preserved : goal.loop-k-preserved
 loop-k-preserved g c = record {
   long = search rules;
   asked = fill_more (record { admitted = false; limit = 0 }) (λ k (t : Terms). t ≡ terms_for (g.B.Binder.meaning c.args.binder.now) (lot_at c.args.lots.now (k / 16)) (exposure_at c.args.exposures.now (k % 16)))
-  c.loop-k.of_pair-items c.loop-k.k c.terms.result (omega arith) c.loop-k.invariant.asked c.terms.ensures.value;
+      c.loop-k.of_pair-items c.loop-k.k c.terms.result (omega arith) c.loop-k.invariant.asked c.terms.ensures.value;
   low = all_more (record { admitted = false; limit = 0 }) (λ (t : Terms). t.limit < 2 ^ 40) c.loop-k.of_pair-items c.loop-k.k c.terms.result (omega arith) c.loop-k.invariant.low c.terms.ensures.low;
 }

@@ -1,4 +1,4 @@
-use Rattle.std.proofs.Common.{false, length-set, ◌∙◌, rules, arith}
+use Rattle.std.proofs.Common.{false, rules, arith}
 use Rattle.cover.specs.Lists.{fill_more}
 use Rattle.cover.proofs.note.word.Goals as goal
 

@@ -1,4 +1,4 @@
-use Rattle.std.proofs.Common.{◌≡◌, ℕ, ◌+◌, ◌<◌, Bor, slice_index, replicate, sym, refl, ap, ◌∙◌, subst, arith}
+use Rattle.std.proofs.Common.{◌≡◌, ℕ, ◌+◌, Bor, slice_index, replicate, sym, refl, ap, ◌∙◌, subst, arith}
 use Rattle.cover.specs.declared.drawn.Drawn.{Drawn}
 use Rattle.cover.specs.declared.load.Loading.{Loading}
 use Rattle.cover.specs.declared.load.Pledge.{Pledge}

@@ -1,4 +1,4 @@
-use Rattle.std.proofs.Common.{ℕ, ◌^◌, ◌<◌, ◌≤◌, length, ◌∙◌, arith}
+use Rattle.std.proofs.Common.{ℕ, ◌^◌, ◌<◌, ◌≤◌, ◌∙◌, arith}
 use Rattle.table.proofs.Sums.{sum_below}
 use Rattle.cover.specs.View.{at}
 use Rattle.cover.specs.PictureLemmas.{cap_small}

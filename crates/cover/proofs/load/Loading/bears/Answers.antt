@@ -1,4 +1,4 @@
-use Rattle.std.proofs.Common.{sym, ap, ◌∙◌}
+use Rattle.std.proofs.Common.{sym, ◌∙◌}
 use Rattle.cover.specs.Picture.{pictured}
 use Rattle.cover.proofs.Loading.{over_supply, over_offer, over_bound}
 use Rattle.cover.proofs.load.Loading.bears.Goals as goal

@@ -1,5 +1,4 @@
-use Rattle.std.proofs.Common.{◌≡◌, ℕ, ◌<◌, None, ◌∙◌, rules}
-use Rattle.cover.specs.View.{at, exposure_at, amount_of}
+use Rattle.std.proofs.Common.{None, ◌∙◌, rules}
 use Rattle.cover.proofs.Totals.{amounts_low, amounts_owed}
 use Rattle.cover.proofs.problem.Problem.owed.Goals as goal
 
