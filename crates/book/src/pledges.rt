@@ -31,9 +31,8 @@ pub fn is_pledged(pledges: &[u64; PAIRS], lot: Place<LOTS>) -> bool
 pub fn zero_column(pledges: &mut [u64; PAIRS], exposure: Place<EXPOSURES>)
     ensures { pledges.new ≡ zeroed pledges.old exposure.at 64 }
 {
-    // by index, since nothing is known of what stands in a table after `chunks_exact_mut`
-    for lot in 0..LOTS {
-        pledges[lot * EXPOSURES + exposure.at] = 0;
+    for place in (exposure.at..PAIRS).step_by(EXPOSURES) {
+        pledges[place] = 0;
     }
 }
 
