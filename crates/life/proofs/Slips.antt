@@ -1,6 +1,7 @@
 -- Orders as calls, and the slip that is held after each.
 
 use Rattle.std.proofs.Common.{◌≡◌, ℕ, Bool, true, false, cond, not, ◌&&◌, eqb, leb, List, [], take, Some, None, Ok, Err, Option, Result, sym, refl, ap, ◌∙◌, subst, inl, inr, arith, eq-eqb}
+use Rattle.std.specs.Option.{ok_or}
 use Rattle.std.proofs.lemmas.Bool.{eqb-true}
 use Rattle.cause.specs.declared.Cause.{Cause}
 use Rattle.cause.specs.declared.Cause.TheVariants.{RunOpen, RunsSpent, SlipStale}
@@ -16,16 +17,13 @@ use Rattle.calls.specs.Call.Outcome.{refused, short, added, withdrawn, exposed, 
 use Rattle.calls.specs.Step.{Step, Decided, Grants}
 use Rattle.book.specs.View.{numbers}
 use Rattle.book.specs.declared.slip.Slip.{Slip}
-use Rattle.life.specs.Turn.{slip_of, with_slip, told, count_of, Turn, made, idle}
+use Rattle.life.specs.Turn.{Outcome, slip_of, with_slip, told, count_of, Turn}
 use Rattle.life.specs.Matched.{has_slip}
 use Rattle.life.specs.Reported.{reported}
-use Rattle.book.specs.Answers.{allocating}
+use Rattle.book.specs.Answers.{allocating, abandoning}
 use Rattle.book.specs.declared.book.allocate.AllocateFault.{AllocateFault}
 use Rattle.book.specs.declared.book.allocate.AllocateFault.TheVariants as fault
-use Rattle.curve.specs.declared.lot.Terms.{Terms}
 use Rattle.life.specs.declared.order.Order.{Order}
-use Rattle.life.specs.declared.order.Order.TheVariants as order
-use Rattle.life.specs.declared.order.Outcome.{Outcome}
 
 -- a record that no call reads
 pub blank_note : Record
@@ -143,17 +141,11 @@ not_begun m s t x n held step =
 pub over : (t : State) → t.in_run ≡ false → has_slip t None ≡ true
 over t h = ap not h
 
--- an allocation as it is told
-pub allocation_told : (m : Meaning) (k : Card) (o : Order) (s t : State) (n : Numbers) (note : Record) (answer : Result ℕ AllocateFault)
-    → Turn m k o s (told (allocating n note answer)) (given_out (allocating n note answer)) t → Turn m k o s (reported answer note) [] t
-allocation_told m k o s t n note (Ok r) turn = turn
-allocation_told m k o s t n note (Err fault.Slip) turn = turn
-allocation_told m k o s t n note (Err (fault.Short x)) turn = turn
-
-pub reported_none : (answer : Result ℕ AllocateFault) (note : Record) → count_of (reported answer note) ≡ 0
-reported_none (Ok r) note = refl
-reported_none (Err fault.Slip) note = refl
-reported_none (Err (fault.Short x)) note = refl
+-- an allocation that is refused, as it is told
+pub refusal_told : (m : Meaning) (k : Card) (o : Order) (s t : State) (n : Numbers) (note : Record) (f : AllocateFault)
+    → Turn m k o s (told (allocating n note (Err f))) (given_out (allocating n note (Err f))) t → Turn m k o s (Err (reported f note)) [] t
+refusal_told m k o s t n note fault.Slip turn = turn
+refusal_told m k o s t n note (fault.Short x) turn = turn
 
 -- an outcome that tells of no instructions
 pub none_taken : {m : Meaning} {k : Card} {o : Order} {s t : State} (r : Outcome) (list : List Instruction) → count_of r ≡ 0 → Turn m k o s r [] t → Turn m k o s r (take (count_of r) list) t
@@ -168,7 +160,7 @@ pub record SameRun (s t : State) : Type 0 where
 same : (s t : State) → t ≡ s → SameRun s t
 same s t e = record { in_run = ap (λ (x : State). x.in_run) e; number = ap (λ (x : State). x.number) e; run = ap (λ (x : State). x.run) e }
 
-KeepsRun : Call → State → State → Type 0
+abbrev pub KeepsRun : Call → State → State → Type 0
 KeepsRun (add p x k) s t = SameRun s t
 KeepsRun (withdraw p) s t = SameRun s t
 KeepsRun (open_exposure p a n) s t = SameRun s t
@@ -179,7 +171,6 @@ KeepsRun (settle x l) s t = Unit {0}
 KeepsRun (abandon x) s t = Unit {0}
 
 kept_same : (c : Call) (s t : State) → t ≡ s → KeepsRun c s t
-unfolding KeepsRun
 kept_same (add p x k) s t e = same s t e
 kept_same (withdraw p) s t e = same s t e
 kept_same (open_exposure p a n) s t e = same s t e
@@ -193,7 +184,6 @@ fields : (s t u : State) → t ≡ u → u.in_run ≡ s.in_run → u.number ≡ 
 fields s t u e a b c = record { in_run = ap (λ (x : State). x.in_run) e ∙ a; number = ap (λ (x : State). x.number) e ∙ b; run = ap (λ (x : State). x.run) e ∙ c }
 
 grants_keep : (m : Meaning) (c : Call) (s t : State) (o : call.Outcome) → Grants m c s o t → KeepsRun c s t
-unfolding KeepsRun
 grants_keep m (add p x k) s t o (h, w, eo, et) = fields s t _ et refl refl refl
 grants_keep m (withdraw p) s t o (eo, et) = fields s t _ et refl refl refl
 grants_keep m (open_exposure p a n) s t o (eo, et) = fields s t _ et refl refl refl
@@ -204,44 +194,11 @@ grants_keep m (allocate x r) s t o (inr w) = same s t w.same
 grants_keep m (settle x l) s t o g = tt
 grants_keep m (abandon x) s t o g = tt
 
-step_keeps : (m : Meaning) (c : Call) (s t : State) (o : call.Outcome) → Step m c s o t → KeepsRun c s t
+pub step_keeps : (m : Meaning) (c : Call) (s t : State) (o : call.Outcome) → Step m c s o t → KeepsRun c s t
 step_keeps m c s t o = decided (cause m s c) where
   decided : (v : Option Cause) → Decided v m c s o t → KeepsRun c s t
   decided (Some k) (eo, et) = kept_same c s t et
   decided None g = grants_keep m c s t o g
-
--- the same of orders
-unwrap : {a b : Call} → Some a ≡ Some b → a ≡ b
-unwrap p = cc
-
-module _ {m : Meaning} {k : Card} {s : State} where
-  pub add_keeps : {p : ℕ} {x : Terms} {r : Outcome} {new : List Instruction} {t : State} → Turn m k (order.Add p x) s r new t → SameRun s t
-  unfolding KeepsRun
-  add_keeps {p} {x} (made list note c e r t step) = step_keeps m (add p x k) s t r (subst (λ (d : Call). Step m d s r t) (sym (unwrap e)) step)
-  add_keeps (idle e) = same s s refl
-
-  pub withdraw_keeps : {p : ℕ} {r : Outcome} {new : List Instruction} {t : State} → Turn m k (order.Withdraw p) s r new t → SameRun s t
-  unfolding KeepsRun
-  withdraw_keeps {p} (made list note c e r t step) = step_keeps m (withdraw p) s t r (subst (λ (d : Call). Step m d s r t) (sym (unwrap e)) step)
-  withdraw_keeps (idle e) = same s s refl
-
-  pub open_keeps : {p a n : ℕ} {r : Outcome} {new : List Instruction} {t : State} → Turn m k (order.Open p a n) s r new t → SameRun s t
-  unfolding KeepsRun
-  open_keeps {p} {a} {n} (made list note c e r t step) = step_keeps m (open_exposure p a n) s t r (subst (λ (d : Call). Step m d s r t) (sym (unwrap e)) step)
-  open_keeps (idle e) = same s s refl
-
-  pub close_keeps : {p : ℕ} {r : Outcome} {new : List Instruction} {t : State} → Turn m k (order.Close p) s r new t → SameRun s t
-  unfolding KeepsRun
-  close_keeps {p} (made list note c e r t step) = step_keeps m (close p list) s t r (subst (λ (d : Call). Step m d s r t) (sym (unwrap e)) step)
-  close_keeps (idle e) = same s s refl
-
-  pub allocate_keeps : {r : Outcome} {new : List Instruction} {t : State} → Turn m k order.Allocate s r new t → SameRun s t
-  unfolding KeepsRun
-  allocate_keeps (made list note c e r t step) = by_slip (slip_of s) refl where
-    by_slip : (n : Option Numbers) → slip_of s ≡ n → SameRun s t
-    by_slip None is = let z : with_slip None (λ x. allocate x note) ≡ Some c = subst (λ n. with_slip n (λ x. allocate x note) ≡ Some c) is e in let w : ◌≡◌ {A = ℕ} 0 1 = cc in apart w
-    by_slip (Some n) is = step_keeps m (allocate n note) s t r (subst (λ (d : Call). Step m d s r t) (sym (unwrap (subst (λ x. with_slip x (λ y. allocate y note) ≡ Some c) is e))) step)
-  allocate_keeps (idle e) = same s s refl
 
 pub still_held : (s t : State) (x : Option Slip) → SameRun s t → has_slip s x ≡ true → has_slip t x ≡ true
 still_held s t None r h = rw r.in_run h
@@ -256,3 +213,18 @@ pub never_stale : (m : Meaning) (s t : State) (x : Slip) → has_slip s (Some x)
 never_stale m s t x held e b step =
     let free : cause m s (abandon (numbers x)) ≡ None = ap (λ v. call.first (not v) SlipStale None) held in
     never_refused m (abandon (numbers x)) s t e b (subst (λ v. Decided v m (abandon (numbers x)) s (refused e b) t) free step)
+
+-- so an abandoning with it ends the run
+pub abandon_ends : (m : Meaning) (s t : State) (x : Slip) → has_slip s (Some x) ≡ true → (r : Result (Unit {0}) (Cause × Slip)) → Step m (abandon (numbers x)) s (abandoning r) t → t.in_run ≡ false
+abandon_ends m s t x held (Ok u) step = abandoned_over m s t (numbers x) step
+abandon_ends m s t x held (Err (e, y)) step = absurd (never_stale m s t x held e _ step)
+
+-- where a run is opened, no slip is held
+pub no_slip : (m : Meaning) (s t : State) (x : Option Slip) (n : Numbers) → has_slip s x ≡ true → Step m begin s (began n) t → x ≡ None
+no_slip m s t None n held step = refl
+no_slip m s t (Some x) n held step = absurd (not_begun m s t x n held step)
+
+-- a value that is wanted is not there
+pub none_left : {A E : Type 0} (o : Option A) (x e : E) → Err e ≡ ok_or o x → (o ≡ None) × (e ≡ x)
+none_left None x e h = (refl, (cc))
+none_left (Some a) x e h = absurd (cc)

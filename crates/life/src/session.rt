@@ -5,6 +5,7 @@ use book::book::Book;
 use book::slip::Slip;
 use curve::card::Card;
 
+pub mod orders;
 pub mod plays;
 
 // One book with the one binder and the card that serve all its calls, and the slip of its open run.
