@@ -8,9 +8,9 @@ ghost use Rattle.calls.specs.Life.{Life, Sound};
 ghost use Rattle.calls.specs.State.{opening as new_state};
 ghost use Rattle.book.specs.Readings.{lot_read, exposure_read, pledge_read, run_open};
 
+use crate::holder::{Holder, count};
 use crate::order::{Order, Outcome};
 use crate::session::Session;
-use crate::session::orders::count;
 use binder::Binder;
 use book::book::Book;
 use book::book::readings::Kind;
@@ -23,12 +23,11 @@ impl<B: Binder> Session<B> {
     // A new book under a binder.
     pub fn new(number: u16, binder: B, card: Card) -> Session<B>
         ensures same { (result.binder ≡ binder) × (result.card ≡ card) }
-        ensures state { view result.book ≡ new_state number }
+        ensures state { view result.holder.book ≡ new_state number }
     {
         let book = Book::new(number);
         Session {
-            book,
-            slip: None,
+            holder: Holder { book, slip: None },
             binder,
             card,
         }
@@ -43,19 +42,22 @@ impl<B: Binder> Session<B> {
         journal: &mut [Instruction],
     ) -> usize
         ensures same { (self.new.binder ≡ self.old.binder) × (self.new.card ≡ self.old.card) }
-        ensures played { Played (B.Binder.meaning self.old.binder) self.old.card (view self.old.book) (take (length outcomes.old) orders.now) (take (length orders.now) outcomes.new) (take result journal.new) (view self.new.book) }
+        ensures played { Played (B.Binder.meaning self.old.binder) self.old.card (view self.old.holder.book) (take (length outcomes.old) orders.now) (take (length orders.now) outcomes.new) (take result journal.new) (view self.new.holder.book) }
         ensures rest { drop (length orders.now) outcomes.new ≡ drop (length orders.now) outcomes.old }
         ensures room { result ≤ length journal.old }
         ensures behind { drop result journal.new ≡ drop result journal.old }
-        ensures law { (number : ℕ) (given : List Instructed) → Life (B.Binder.meaning self.old.binder) number (view self.old.book) given
-            → Life (B.Binder.meaning self.old.binder) number (view self.new.book) (given ++ take result journal.new)
-            × Sound (B.Binder.meaning self.old.binder) (view self.new.book) (given ++ take result journal.new) }
+        ensures law { (number : ℕ) (given : List Instructed) → Life (B.Binder.meaning self.old.binder) number (view self.old.holder.book) given
+            → Life (B.Binder.meaning self.old.binder) number (view self.new.holder.book) (given ++ take result journal.new)
+            × Sound (B.Binder.meaning self.old.binder) (view self.new.holder.book) (given ++ take result journal.new) }
     {
         let n = orders.len().min(outcomes.len());
         let mut used = 0;
         // by index, since nothing is known of what was written through a `zip` over `iter_mut`
         for i in 0..n {
-            let outcome = self.carry_out(orders[i], &mut journal[used..]);
+            let lent = &mut journal[used..];
+            let outcome = self
+                .holder
+                .carry_out(orders[i], lent, &self.binder, &self.card);
             used += count(outcome);
             outcomes[i] = outcome;
         }
@@ -74,50 +76,50 @@ impl<B: Binder> Session<B> {
         journal: &mut [Instruction],
     ) -> usize
         ensures same { (self.new.binder ≡ self.old.binder) × (self.new.card ≡ self.old.card) }
-        ensures played { Played (B.Binder.meaning self.old.binder) self.old.card (view self.old.book) (take (length outcomes.old) orders.now) (take (length orders.now) outcomes.new) (take result journal.new) (view self.new.book) }
+        ensures played { Played (B.Binder.meaning self.old.binder) self.old.card (view self.old.holder.book) (take (length outcomes.old) orders.now) (take (length orders.now) outcomes.new) (take result journal.new) (view self.new.holder.book) }
         ensures rest { drop (length orders.now) outcomes.new ≡ drop (length orders.now) outcomes.old }
         ensures room { result ≤ length journal.old }
         ensures behind { drop result journal.new ≡ drop result journal.old }
-        ensures law { (number : ℕ) (given : List Instructed) → Life (B.Binder.meaning self.old.binder) number (view self.old.book) given
-            → Life (B.Binder.meaning self.old.binder) number (view self.new.book) (given ++ take result journal.new)
-            × Sound (B.Binder.meaning self.old.binder) (view self.new.book) (given ++ take result journal.new) }
+        ensures law { (number : ℕ) (given : List Instructed) → Life (B.Binder.meaning self.old.binder) number (view self.old.holder.book) given
+            → Life (B.Binder.meaning self.old.binder) number (view self.new.holder.book) (given ++ take result journal.new)
+            × Sound (B.Binder.meaning self.old.binder) (view self.new.holder.book) (given ++ take result journal.new) }
     {
         self.carry_out_all(orders, outcomes, journal)
     }
 
     // The lot at a place, with its collateral value.
     pub fn lot(&self, place: u64) -> Result<Lot, Cause>
-        ensures { result ≡ lot_read (view self.now.book) place }
+        ensures { result ≡ lot_read (view self.now.holder.book) place }
     {
-        self.book.lot(place)
+        self.holder.book.lot(place)
     }
 
     pub fn exposure(&self, place: u64) -> Result<Exposure, Cause>
-        ensures { result ≡ exposure_read (view self.now.book) place }
+        ensures { result ≡ exposure_read (view self.now.holder.book) place }
     {
-        self.book.exposure(place)
+        self.holder.book.exposure(place)
     }
 
     // A pledge of the standing or the working table.
     pub fn pledge(&self, kind: Kind, lot: u64, exposure: u64) -> Result<u64, Cause>
-        ensures { result ≡ pledge_read (view self.now.book) kind lot exposure }
+        ensures { result ≡ pledge_read (view self.now.holder.book) kind lot exposure }
     {
-        self.book.pledge(kind, lot, exposure)
+        self.holder.book.pledge(kind, lot, exposure)
     }
 
     // Ends the session: an open run is abandoned, and its number returned.
-    pub fn end(mut self) -> (B, Option<u32>)
+    pub fn end(self) -> (B, Option<u32>)
         ensures binder { result.0 ≡ self.binder }
-        ensures run { result.1 ≡ run_open (view self.book) }
+        ensures run { result.1 ≡ run_open (view self.holder.book) }
     {
-        let run = self.book.open_run();
-        let _ = self.abandon();
         let Session {
-            book: _,
-            slip,
+            mut holder,
             binder,
             card: _,
         } = self;
+        let run = holder.book.open_run();
+        let _ = holder.abandon();
+        let Holder { book: _, slip } = holder;
         match slip {
             Some(_slip) => unreachable!(),
             None => (binder, run),

@@ -28,12 +28,12 @@ loop-i-preserved g c =
     let room : n ≤ length rest = omega (arith, e.room, c.carry_out-outcome.auto.list) in
     let size = length journal - used in
     let low = omega_min (length c.args.orders.now) (length c.args.outcomes.now) c.loop-i.i (omega (arith, c.min-n.ensures)) in
-    let turn = subst (λ b. Turn (g.B.Binder.meaning b) self.card (get_or c.args.orders.now c.loop-i.i (Add 0 blank)) (view c.loop-i.self.book) outcome (take n rest) (view c.carry_out-outcome.new.self.book)) inv.1.0
-    (subst (λ k. Turn (g.B.Binder.meaning c.loop-i.self.binder) k (get_or c.args.orders.now c.loop-i.i (Add 0 blank)) (view c.loop-i.self.book) outcome (take n rest) (view c.carry_out-outcome.new.self.book)) inv.1.1 e.turn) in
+    let turn = subst (λ b. Turn (g.B.Binder.meaning b) self.card (get_or c.args.orders.now c.loop-i.i (Add 0 blank)) (view c.loop-i.self.holder.book) outcome (take n rest) (view c.carry_out-outcome.new.self.book)) inv.1.0
+    (subst (λ k. Turn (g.B.Binder.meaning c.loop-i.self.binder) k (get_or c.args.orders.now c.loop-i.i (Add 0 blank)) (view c.loop-i.self.holder.book) outcome (take n rest) (view c.carry_out-outcome.new.self.book)) inv.1.1 e.turn) in
     rw c.count-used.ensures (
       room_left journal rest used n size inv.0 room,
-      (e.same.0 ∙ inv.1.0, e.same.1 ∙ inv.1.1),
-      play_more journal rest used n size inv.0 room (g.B.Binder.meaning self.binder) self.card (view self.book) (view c.loop-i.self.book) (view c.carry_out-outcome.new.self.book)
+      inv.1,
+      play_more journal rest used n size inv.0 room (g.B.Binder.meaning self.binder) self.card (view self.holder.book) (view c.loop-i.self.holder.book) (view c.carry_out-outcome.new.self.book)
           c.args.orders.now c.loop-i.outcomes c.loop-i.i (Add 0 blank) outcome low.0 (omega (arith, low.1, c.loop-i.auto.outcomes)) inv.2 turn,
       drop_next c.loop-i.outcomes c.args.outcomes.now c.loop-i.i outcome inv.3,
       journal_rest journal rest used n size inv.0 room c.args.journal.now (take size (drop used journal)) refl (take_rest journal used) inv.4 e.behind,
@@ -50,8 +50,8 @@ returns g c =
     let self = c.args.self.now in
     let m = g.B.Binder.meaning self.binder in
     let given = take c.loop-i.used c.loop-i.journal in
-    let played = subst (λ os. Played m self.card (view self.book) os (take a c.loop-i.outcomes) given (view c.loop-i.self.book)) orders
-    (subst (λ rs. Played m self.card (view self.book) (take c.loop-i.i c.args.orders.now) rs given (view c.loop-i.self.book)) outcomes inv.2) in
+    let played = subst (λ os. Played m self.card (view self.holder.book) os (take a c.loop-i.outcomes) given (view c.loop-i.self.holder.book)) orders
+    (subst (λ rs. Played m self.card (view self.holder.book) (take c.loop-i.i c.args.orders.now) rs given (view c.loop-i.self.holder.book)) outcomes inv.2) in
     record {
       same = inv.1;
       played = played;

@@ -1,22 +1,27 @@
-// One method for each order: its call is made, or there is no slip to make it with.
+// A book with the slip of its open run, and one method for each order: its call is made, or there is
+// no slip to make it with.
 
 ghost use Rattle.std.specs.Prelude.{◌≡◌, ◌≤◌, [], length, take, drop, Some, None};
+ghost use Rattle.binder.specs.Meaning.{Meaning};
+ghost use Rattle.curve.specs.declared.card.Card.{Card as Carded};
 ghost use Rattle.book.specs.View.{view};
 ghost use Rattle.life.specs.Turn.{Turn, count_of};
+ghost use Rattle.life.specs.Matched.{Matched};
 ghost use Rattle.life.specs.Reported.{reported};
 ghost use Rattle.life.specs.declared.order.Order.TheVariants.{Add, Withdraw, Open, Close, Begin, Allocate, Settle, Abandon};
 
 use crate::order::{Granted, Order, Outcome, Refused};
-use crate::session::Session;
 use binder::Binder;
+use book::book::Book;
 use book::book::allocate::AllocateFault;
 use book::slip::Slip;
 use calls::Instruction;
 use cover::Record;
+use curve::card::Card;
 use curve::lot::Terms;
 
 // How many instructions an outcome tells of.
-pub(super) fn count(outcome: Outcome) -> usize
+pub fn count(outcome: Outcome) -> usize
     ensures { result ≡ count_of outcome }
 {
     match outcome {
@@ -46,37 +51,40 @@ fn keep(place: &mut Option<Slip>, slip: Slip)
     }
 }
 
-impl<B: Binder> Session<B> {
-    fn add(&mut self, place: u64, terms: &Terms) -> Outcome
-        ensures same { (self.new.binder ≡ self.old.binder) × (self.new.card ≡ self.old.card) }
+// The slip is held exactly while a run is open.
+pub(crate) struct Holder {
+    pub(crate) book: Book,
+    pub(crate) slip: Option<Slip>,
+    ghost matched: { Matched book slip },
+}
+
+impl Holder {
+    fn add(&mut self, place: u64, terms: &Terms, card: &Card) -> Outcome
         ensures none { count_of result ≡ 0 }
-        ensures turn { Turn (B.Binder.meaning self.old.binder) self.old.card (Add place terms.now) (view self.old.book) result [] (view self.new.book) }
+        ensures turn { (m : Meaning) → Turn m card.now (Add place terms.now) (view self.old.book) result [] (view self.new.book) }
     {
-        let worth = self.book.add(place, terms, &self.card)?;
+        let worth = self.book.add(place, terms, card)?;
         Ok(Granted::Added(worth))
     }
 
     fn withdraw(&mut self, place: u64) -> Outcome
-        ensures same { (self.new.binder ≡ self.old.binder) × (self.new.card ≡ self.old.card) }
         ensures none { count_of result ≡ 0 }
-        ensures turn { Turn (B.Binder.meaning self.old.binder) self.old.card (Withdraw place) (view self.old.book) result [] (view self.new.book) }
+        ensures turn { (m : Meaning) (k : Carded) → Turn m k (Withdraw place) (view self.old.book) result [] (view self.new.book) }
     {
         self.book.withdraw(place)?;
         Ok(Granted::Withdrawn)
     }
 
-    fn open(&mut self, place: u64, amount: u64, schedule: u64) -> Outcome
-        ensures same { (self.new.binder ≡ self.old.binder) × (self.new.card ≡ self.old.card) }
+    fn open<B: Binder>(&mut self, place: u64, amount: u64, schedule: u64, binder: &B) -> Outcome
         ensures none { count_of result ≡ 0 }
-        ensures turn { Turn (B.Binder.meaning self.old.binder) self.old.card (Open place amount schedule) (view self.old.book) result [] (view self.new.book) }
+        ensures turn { (k : Carded) → Turn (B.Binder.meaning binder.now) k (Open place amount schedule) (view self.old.book) result [] (view self.new.book) }
     {
-        self.book.open(place, amount, schedule, &self.binder)?;
+        self.book.open(place, amount, schedule, binder)?;
         Ok(Granted::Opened)
     }
 
     fn close(&mut self, place: u64, list: &mut [Instruction]) -> Outcome
-        ensures same { (self.new.binder ≡ self.old.binder) × (self.new.card ≡ self.old.card) }
-        ensures turn { Turn (B.Binder.meaning self.old.binder) self.old.card (Close place) (view self.old.book) result (take (count_of result) list.new) (view self.new.book) }
+        ensures turn { (m : Meaning) (k : Carded) → Turn m k (Close place) (view self.old.book) result (take (count_of result) list.new) (view self.new.book) }
         ensures room { count_of result ≤ length list.old }
         ensures behind { drop (count_of result) list.new ≡ drop (count_of result) list.old }
     {
@@ -85,9 +93,8 @@ impl<B: Binder> Session<B> {
     }
 
     fn begin(&mut self) -> Outcome
-        ensures same { (self.new.binder ≡ self.old.binder) × (self.new.card ≡ self.old.card) }
         ensures none { count_of result ≡ 0 }
-        ensures turn { Turn (B.Binder.meaning self.old.binder) self.old.card Begin (view self.old.book) result [] (view self.new.book) }
+        ensures turn { (m : Meaning) (k : Carded) → Turn m k Begin (view self.old.book) result [] (view self.new.book) }
     {
         let slip = self.book.begin()?;
         let run = slip.run();
@@ -95,10 +102,9 @@ impl<B: Binder> Session<B> {
         Ok(Granted::Began(run))
     }
 
-    fn allocate(&mut self) -> Outcome
-        ensures same { (self.new.binder ≡ self.old.binder) × (self.new.card ≡ self.old.card) }
+    fn allocate<B: Binder>(&mut self, binder: &B) -> Outcome
         ensures none { count_of result ≡ 0 }
-        ensures turn { Turn (B.Binder.meaning self.old.binder) self.old.card Allocate (view self.old.book) result [] (view self.new.book) }
+        ensures turn { (k : Carded) → Turn (B.Binder.meaning binder.now) k Allocate (view self.old.book) result [] (view self.new.book) }
     {
         let mut note = Record {
             exposures: 0,
@@ -106,15 +112,14 @@ impl<B: Binder> Session<B> {
             issuers: [0; 16],
         };
         let slip = self.slip.as_ref().ok_or(Refused::NoSlip)?;
-        match self.book.allocate(slip, &self.binder, &mut note) {
+        match self.book.allocate(slip, binder, &mut note) {
             Ok(rounds) => Ok(Granted::Allocated(rounds)),
             Err(fault) => Err(refusal(fault, note)),
         }
     }
 
     fn settle(&mut self, list: &mut [Instruction]) -> Outcome
-        ensures same { (self.new.binder ≡ self.old.binder) × (self.new.card ≡ self.old.card) }
-        ensures turn { Turn (B.Binder.meaning self.old.binder) self.old.card Settle (view self.old.book) result (take (count_of result) list.new) (view self.new.book) }
+        ensures turn { (m : Meaning) (k : Carded) → Turn m k Settle (view self.old.book) result (take (count_of result) list.new) (view self.new.book) }
         ensures room { count_of result ≤ length list.old }
         ensures behind { drop (count_of result) list.new ≡ drop (count_of result) list.old }
     {
@@ -128,10 +133,9 @@ impl<B: Binder> Session<B> {
         }
     }
 
-    pub(super) fn abandon(&mut self) -> Outcome
-        ensures same { (self.new.binder ≡ self.old.binder) × (self.new.card ≡ self.old.card) }
+    pub fn abandon(&mut self) -> Outcome
         ensures none { count_of result ≡ 0 }
-        ensures turn { Turn (B.Binder.meaning self.old.binder) self.old.card Abandon (view self.old.book) result [] (view self.new.book) }
+        ensures turn { (m : Meaning) (k : Carded) → Turn m k Abandon (view self.old.book) result [] (view self.new.book) }
         ensures gone { self.new.slip ≡ None }
     {
         let slip = self.slip.take().ok_or(Refused::NoSlip)?;
@@ -142,19 +146,24 @@ impl<B: Binder> Session<B> {
     }
 
     // Carries out one order. What it writes stands at the start of the list.
-    pub(super) fn carry_out(&mut self, order: Order, list: &mut [Instruction]) -> Outcome
-        ensures same { (self.new.binder ≡ self.old.binder) × (self.new.card ≡ self.old.card) }
-        ensures turn { Turn (B.Binder.meaning self.old.binder) self.old.card order (view self.old.book) result (take (count_of result) list.new) (view self.new.book) }
+    pub fn carry_out<B: Binder>(
+        &mut self,
+        order: Order,
+        list: &mut [Instruction],
+        binder: &B,
+        card: &Card,
+    ) -> Outcome
+        ensures turn { Turn (B.Binder.meaning binder.now) card.now order (view self.old.book) result (take (count_of result) list.new) (view self.new.book) }
         ensures room { count_of result ≤ length list.old }
         ensures behind { drop (count_of result) list.new ≡ drop (count_of result) list.old }
     {
         match order {
-            Order::Add(place, terms) => self.add(place, &terms),
+            Order::Add(place, terms) => self.add(place, &terms, card),
             Order::Withdraw(place) => self.withdraw(place),
-            Order::Open(place, amount, schedule) => self.open(place, amount, schedule),
+            Order::Open(place, amount, schedule) => self.open(place, amount, schedule, binder),
             Order::Close(place) => self.close(place, list),
             Order::Begin => self.begin(),
-            Order::Allocate => self.allocate(),
+            Order::Allocate => self.allocate(binder),
             Order::Settle => self.settle(list),
             Order::Abandon => self.abandon(),
         }
