@@ -1,13 +1,12 @@
 -- Walks over lots, exposures and tables.
 
-use Rattle.std.proofs.Common.{◌≡◌, ℕ, zero, suc, ◌+◌, ◌*◌, ◌<◌, ◌≤◌, Bool, true, false, ◌||◌, ltb, List, [], ◌∷◌, ◌++◌, length, drop, get_or, set, filter, is_some, Some, None, Option, sym, refl, ap, ◌∙◌, add-one, zero-add, arith, length-drop, length-append}
+use Rattle.std.proofs.Common.{◌≡◌, ℕ, zero, suc, ◌+◌, ◌*◌, ◌<◌, ltb, List, [], ◌∷◌, ◌++◌, length, drop, get_or, set, filter, is_some, Some, None, Option, sym, refl, ap, ◌∙◌, add-one, zero-add, arith, length-drop, length-append}
 use Rattle.std.specs.List.{list_any}
 use Rattle.std.proofs.lemmas.Bool.Decides.{nat_tests}
 use Rattle.std.proofs.lemmas.List.{drop_at, drop-drop, get_or-drop}
 use Rattle.std.proofs.Math.ListN.{get_or-append}
 use Rattle.network.specs.Sums.{sum_over, when}
-use Rattle.network.proofs.Sums.{sum_start, sum_le, sum_ones, sum_same}
-use Rattle.table.proofs.Sums.{when_low}
+use Rattle.network.proofs.Sums.{sum_start, sum_same}
 use Rattle.calls.specs.Call.{count}
 use Rattle.calls.specs.State.{table}
 use Rattle.calls.specs.Step.{zeroed}

@@ -2,13 +2,13 @@
 
 ghost use Rattle.std.specs.Prelude.{◌≡◌, ℕ, ◌+◌, ◌^◌, ◌<◌, ◌≤◌, length, if◌then◌else◌, ◌≢◌, nat_eq, nat_lt, slice_set, is_some, slice_index, slice_index_or, None};
 ghost use Rattle.network.specs.Sums.{sum_over};
-ghost use Rattle.calls.specs.State.{table, held_at, open_at};
+ghost use Rattle.calls.specs.State.{table};
 ghost use Rattle.calls.specs.Call.{count};
 ghost use Rattle.calls.specs.Instructions.{moves, move, changes, closings, written};
 ghost use Rattle.calls.specs.Step.{zeroed};
 ghost use Rattle.book.specs.Kept.{Low};
 
-use crate::places::{EXPOSURES, LOTS, PAIRS, Place, pair};
+use crate::places::{EXPOSURES, LOTS, PAIRS, Place};
 use calls::Instruction;
 
 // The pledges of a lot.
@@ -66,7 +66,8 @@ impl Change {
         }
     }
 
-    // Writes its instruction behind the first `count` if the pledge differs, and returns their number then.
+    // Writes its instruction behind the first `count` if the pledge differs, and returns their number
+    // then. The list is the caller's, so the number stands beside it.
     fn write(self, list: &mut [Instruction], count: usize) -> usize
         requires room { (self.new ≢ self.old) → count < length list.old }
         ensures count { result ≡ count + length (move self.lot self.exposure self.old self.new) }

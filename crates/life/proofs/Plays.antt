@@ -96,12 +96,6 @@ pub lived_soundly : {m : Meaning} {k : Card} {s t : State} {os : List Order} {rs
     → (number : ℕ) (given : List Instruction) → Life m number s given → Life m number t (given ++ new) × Sound m t (given ++ new)
 lived_soundly {m} {k} {s} {t} {os} {rs} {new} all number given life = let now = lived life all in (now, every_life_sound m number t (given ++ new) now)
 
-pub omega_min : (a b i : ℕ) → i < min a b → (i < a) × (i < b)
-omega_min a b i h = elim (dec_le a b) [
-  | yes l ↦ (let e : min a b ≡ a = min-eq_left l in (omega arith, omega arith))
-  | no l ↦ (let le : b ≤ a = omega arith in let e : min a b ≡ b = min-eq_right le in (omega arith, omega arith))
-]
-
 -- what lies behind the outcomes told of
 pub drop_rest : {A : Type 0} (xs ys : List A) (i n : ℕ) → length xs ≡ length ys → i ≡ min n (length ys) → drop i xs ≡ drop i ys → drop n xs ≡ drop n ys
 drop_rest xs ys i n size is e = elim (dec_le n (length ys)) [

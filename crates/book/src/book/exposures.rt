@@ -1,4 +1,4 @@
-ghost use Rattle.std.specs.Prelude.{◌≡◌, ◌≤◌, ◌&&◌, length, IfOk, None, nat_le};
+ghost use Rattle.std.specs.Prelude.{◌≡◌, ◌≤◌, length, IfOk, None};
 ghost use Rattle.binder.specs.Meaning.{Meaning};
 ghost use Rattle.calls.specs.Call.Call.{open_exposure as open_call, close as close_call};
 ghost use Rattle.calls.specs.Call.{held_lots};

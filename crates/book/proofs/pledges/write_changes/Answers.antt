@@ -1,6 +1,6 @@
-use Rattle.std.proofs.Common.{◌≡◌, ◌+◌, ◌-◌, ◌/◌, ◌%◌, ◌<◌, ◌≤◌, length, get_or, drop, refl, sym, ap, ◌∙◌, inl, ⊎_elim, arith, length-drop}
+use Rattle.std.proofs.Common.{◌≡◌, ◌+◌, ◌/◌, ◌%◌, ◌≤◌, length, refl, sym, ap, ◌∙◌, inl, ⊎_elim, arith, length-drop}
 use Rattle.std.specs.Slice.Iter.{iter_rest}
-use Rattle.std.specs.Iterator.Adapters.{enumerate_source, enumerate_count, zip_first, zip_second}
+use Rattle.std.specs.Iterator.Adapters.{enumerate_source, enumerate_count, zip_first}
 use Rattle.calls.specs.Instructions.{changes, move, written}
 use Rattle.book.proofs.Walks.{next_of}
 use Rattle.book.proofs.Collected.{collected, collected_none, change_at, changes_is, has_room, turn}

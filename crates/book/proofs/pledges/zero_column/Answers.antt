@@ -1,4 +1,4 @@
-use Rattle.std.proofs.Common.{◌≡◌, ◌+◌, ◌*◌, ◌/◌, ◌%◌, set, sym, ap, ◌∙◌, arith}
+use Rattle.std.proofs.Common.{◌≡◌, ◌+◌, ◌*◌, ◌/◌, set, sym, ap, ◌∙◌, arith}
 use Rattle.calls.specs.Step.{zeroed}
 use Rattle.book.proofs.Walks.{zeroed_start, zeroed_more}
 use Rattle.book.proofs.pledges.zero_column.Goals as goal

@@ -1,11 +1,11 @@
-use Rattle.std.proofs.Common.{◌≡◌, ◌-◌, ◌≤◌, min, length, get_or, take, drop, sym, refl, ap, ◌∙◌, subst, arith}
+use Rattle.std.proofs.Common.{◌≡◌, ◌-◌, ◌<◌, ◌≤◌, min, length, get_or, take, drop, refl, ap, ◌∙◌, subst, arith}
 use native.Mathlib.Nat.{min_comm}
 use Rattle.std.proofs.lemmas.List.{take_rest}
 use Rattle.curve.specs.declared.lot.Terms.{Terms}
 use Rattle.book.specs.View.{view}
 use Rattle.life.specs.Turn.{Turn, Played, none, count_of}
 use Rattle.life.specs.declared.order.Order.TheVariants.{Add}
-use Rattle.life.proofs.Plays.{room_left, play_more, journal_rest, drop_next, take_min, omega_min, drop_rest, lived_soundly}
+use Rattle.life.proofs.Plays.{room_left, play_more, journal_rest, drop_next, take_min, drop_rest, lived_soundly}
 use Rattle.life.proofs.session.Session.carry_out_all.Goals as goal
 
 -- what an index past the orders would read
@@ -27,14 +27,14 @@ loop-i-preserved g c =
     let e = c.carry_out-outcome.ensures in
     let room : n ≤ length rest = omega (arith, e.room, c.carry_out-outcome.auto.list) in
     let size = length journal - used in
-    let low = omega_min (length c.args.orders.now) (length c.args.outcomes.now) c.loop-i.i (omega (arith, c.min-n.ensures)) in
+    let low : c.loop-i.i < min (length c.args.orders.now) (length c.args.outcomes.now) = omega (arith, c.min-n.ensures) in
     let turn = subst (λ b. Turn (g.B.Binder.meaning b) self.card (get_or c.args.orders.now c.loop-i.i (Add 0 blank)) (view c.loop-i.self.holder.book) outcome (take n rest) (view c.carry_out-outcome.new.self.book)) inv.1.0
     (subst (λ k. Turn (g.B.Binder.meaning c.loop-i.self.binder) k (get_or c.args.orders.now c.loop-i.i (Add 0 blank)) (view c.loop-i.self.holder.book) outcome (take n rest) (view c.carry_out-outcome.new.self.book)) inv.1.1 e.turn) in
     rw c.count-used.ensures (
       room_left journal rest used n size inv.0 room,
       inv.1,
       play_more journal rest used n size inv.0 room (g.B.Binder.meaning self.binder) self.card (view self.holder.book) (view c.loop-i.self.holder.book) (view c.carry_out-outcome.new.self.book)
-          c.args.orders.now c.loop-i.outcomes c.loop-i.i (Add 0 blank) outcome low.0 (omega (arith, low.1, c.loop-i.auto.outcomes)) inv.2 turn,
+          c.args.orders.now c.loop-i.outcomes c.loop-i.i (Add 0 blank) outcome (omega (arith, low)) (omega (arith, low, c.loop-i.auto.outcomes)) inv.2 turn,
       drop_next c.loop-i.outcomes c.args.outcomes.now c.loop-i.i outcome inv.3,
       journal_rest journal rest used n size inv.0 room c.args.journal.now (take size (drop used journal)) refl (take_rest journal used) inv.4 e.behind,
     )
