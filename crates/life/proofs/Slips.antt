@@ -17,7 +17,7 @@ use Rattle.calls.specs.Call.Outcome.{refused, short, added, withdrawn, exposed, 
 use Rattle.calls.specs.Step.{Step, Decided, Grants}
 use Rattle.book.specs.View.{numbers}
 use Rattle.book.specs.declared.slip.Slip.{Slip}
-use Rattle.life.specs.Turn.{slip_of, with_slip, told, Turn}
+use Rattle.life.specs.Turn.{slip_of, with_slip, told, count_of, Turn}
 use Rattle.life.specs.Matched.{has_slip}
 use Rattle.life.specs.Reported.{reported}
 use Rattle.book.specs.Answers.{allocating, abandoning}
@@ -128,11 +128,17 @@ not_begun m s t x n held step =
 pub over : (t : State) → t.in_run ≡ false → has_slip t None ≡ true
 over t h = ap not h
 
--- an allocation that is refused, as it is told
-pub refusal_told : (m : Meaning) (k : Card) (o : Order) (s t : State) (n : Numbers) (note : Record) (f : AllocateFault)
-    → Turn m k o s (told (allocating n note (Err f))) (given_out (allocating n note (Err f))) t → Turn m k o s (Err (reported f note)) [] t
-refusal_told m k o s t n note fault.Slip turn = turn
-refusal_told m k o s t n note (fault.Short x) turn = turn
+-- an allocation as it is told
+pub allocation_told : (m : Meaning) (k : Card) (o : Order) (s t : State) (n : Numbers) (note : Record) (answer : Result ℕ AllocateFault)
+    → Turn m k o s (told (allocating n note answer)) (given_out (allocating n note answer)) t → Turn m k o s (reported answer note) [] t
+allocation_told m k o s t n note (Ok r) turn = turn
+allocation_told m k o s t n note (Err fault.Slip) turn = turn
+allocation_told m k o s t n note (Err (fault.Short x)) turn = turn
+
+pub reported_none : (answer : Result ℕ AllocateFault) (note : Record) → count_of (reported answer note) ≡ 0
+reported_none (Ok r) note = refl
+reported_none (Err fault.Slip) note = refl
+reported_none (Err (fault.Short x)) note = refl
 
 -- calls that neither open nor end a run leave its slip
 pub record SameRun (s t : State) : Type 0 where

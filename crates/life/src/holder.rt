@@ -30,14 +30,14 @@ pub fn count(outcome: Outcome) -> usize
     }
 }
 
-// What is told of an allocation that is refused.
-fn refusal(fault: AllocateFault, note: Record) -> Refused
-    ensures { result ≡ reported fault note }
+// What is told of an allocation.
+fn report(answer: Result<usize, AllocateFault>, note: Record) -> Outcome
+    ensures { result ≡ reported answer note }
 {
-    match fault {
+    answer.map(Granted::Allocated).map_err(|fault| match fault {
         AllocateFault::Slip => Refused::For(fault.cause()),
         AllocateFault::Short(shortage) => Refused::Short(shortage, note),
-    }
+    })
 }
 
 // Keeps a slip where there is none.
@@ -112,10 +112,8 @@ impl Holder {
             issuers: [0; 16],
         };
         let slip = self.slip.as_ref().ok_or(Refused::NoSlip)?;
-        match self.book.allocate(slip, binder, &mut note) {
-            Ok(rounds) => Ok(Granted::Allocated(rounds)),
-            Err(fault) => Err(refusal(fault, note)),
-        }
+        let answer = self.book.allocate(slip, binder, &mut note);
+        report(answer, note)
     }
 
     fn settle(&mut self, list: &mut [Instruction]) -> Outcome
