@@ -32,6 +32,10 @@ unfolding closings collected closing_at
 closings_is t e zero = refl
 closings_is t e (suc n) = ap (λ xs. xs ++ move n e (table t n e) 0) (closings_is t e n)
 
+pub collected_none : (f : ℕ → List Instruction) → collected f 0 ≡ []
+unfolding collected
+collected_none f = refl
+
 pub collected_more : (f : ℕ → List Instruction) (n : ℕ) → collected f (n + 1) ≡ collected f n ++ f n
 unfolding collected
 collected_more f n = ap (collected f) (add-one n)

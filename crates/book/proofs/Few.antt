@@ -7,7 +7,7 @@ use Rattle.std.proofs.Common.{◌≡◌, ℕ, zero, suc, ◌+◌, ◌*◌, ◌/�
 use Rattle.std.proofs.lemmas.Bool.{cases_eq}
 use Rattle.network.specs.Sums.{sum_over, when}
 use Rattle.network.proofs.Sums.{sum_le}
-use Rattle.table.proofs.Sums.{sum_grid}
+use Rattle.table.proofs.Sums.{sum_grid, when_only}
 use Rattle.curve.specs.declared.lot.Lot.{Lot}
 use Rattle.calls.specs.declared.Exposure.{Exposure}
 use Rattle.calls.specs.State.{table, held_at, open_at}
@@ -32,16 +32,12 @@ when_out zero false p = refl
 when_out (suc n) true p = ap (λ x. x + when (p n) 1) (when_out n true p)
 when_out (suc n) false p = ap (λ x. x + 0) (when_out n false p)
 
+none : (b : Bool) (x : ℕ) → (0 < x → b ≡ true) → b ≡ false → x ≡ 0
+none b zero h f = refl
+none b (suc x) h f = let t = h (omega arith) in absurd (cc)
+
 two_tests : (a b : Bool) (x : ℕ) → (0 < x → (a ≡ true) × (b ≡ true)) → x ≤ 1 → x ≤ when a (when b 1)
-two_tests true true x h l = l
-two_tests true false x h l = low x (λ k. (h k).1) where
-  low : (x : ℕ) → (0 < x → false ≡ true) → x ≤ 0
-  low zero h = omega arith
-  low (suc x) h = let e = h (omega arith) in let z : ◌≡◌ {A = ℕ} 0 1 = cc in absurd (omega arith)
-two_tests false b x h l = low x (λ k. (h k).0) where
-  low : (x : ℕ) → (0 < x → false ≡ true) → x ≤ 0
-  low zero h = omega arith
-  low (suc x) h = let e = h (omega arith) in let z : ◌≡◌ {A = ℕ} 0 1 = cc in absurd (omega arith)
+two_tests a b x h l = when_only a x (when b 1) (λ _. when_only b x 1 (λ _. l) (none b x (λ k. (h k).1))) (none a x (λ k. (h k).0))
 
 module _ (lots : List (Option Lot)) (xs : List (Option Exposure)) (s w : List ℕ) (gs : Grounded lots xs s) (gw : Grounded lots xs w) where
   on_both : (l e : ℕ) → l < 64 → e < 16 → (get_or w (l * 16 + e) 0 ≡ get_or s (l * 16 + e) 0 → ⊥) → (held_at lots l ≡ true) × (open_at xs e ≡ true)

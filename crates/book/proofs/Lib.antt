@@ -1,7 +1,7 @@
 pub mod Empty
 pub mod Collected
 pub mod Walks
-pub mod Places
+pub mod Pledged
 pub mod Few
 pub mod Pricing
 pub mod Steps

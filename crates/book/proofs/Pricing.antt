@@ -1,10 +1,11 @@
 -- What comes of pricing a lot, as the relation over calls says it.
 
-use Rattle.std.proofs.Common.{◌≡◌, ℕ, zero, suc, ◌<◌, ◌≤◌, Bool, true, false, ◌&&◌, ltb, leb, List, [], ◌∷◌, Some, None, refl, ap, arith}
+use Rattle.std.proofs.Common.{◌≡◌, ℕ, zero, suc, ◌<◌, ◌≤◌, Bool, true, false, ltb, leb, List, [], ◌∷◌, Some, None, refl, ap, arith}
 use Rattle.std.proofs.lemmas.Bool.Decides.{nat_tests}
+use Rattle.std.proofs.lemmas.Bool.{and_parts, and_from}
 use Rattle.cause.specs.declared.Cause.{Cause}
 use Rattle.binder.specs.Meaning.{Meaning}
-use Rattle.curve.specs.Points.{Points, Lawful, Haircut, Past, blank}
+use Rattle.curve.specs.Points.{Points, Lawful, Haircut, Past}
 use Rattle.curve.specs.Lot.{InRange, Priced, Unpriced}
 use Rattle.curve.specs.Lot.Unpriced.{outside, past}
 use Rattle.curve.specs.Card.{nth_points}
@@ -21,52 +22,38 @@ use Rattle.calls.specs.Step.{Step, with_lot}
 use Rattle.book.proofs.Steps.{granted}
 
 -- every curve of a card is lawful
-blank_none : (j : ℕ) → j < 1 → (λ (k : ℕ). blank.month k) j ≡ 0
-blank_none j h = refl
-
 pub card_lawful : (cs : List Curve) (k : ℕ) → Lawful (nth_points cs k)
 card_lawful [] k = record { some = omega arith; few = omega arith; months = λ j h. grind (arith, nat_tests); haircuts = λ j h. grind (arith, nat_tests) }
 card_lawful (c ∷ cs) zero = record { some = c.some.0; few = c.some.1; months = c.rising; haircuts = c.falling }
 card_lawful (c ∷ cs) (suc k) = card_lawful cs k
-
-and_true : (a b : Bool) → a ≡ true → b ≡ true → (a && b) ≡ true
-and_true true b h k = k
-and_true false b h k = h
 
 le_true : (a b : ℕ) → a ≤ b → leb a b ≡ true
 le_true a b h = grind (arith, nat_tests)
 
 pub ranges_true : (t : Terms) → InRange t → in_range t ≡ true
 ranges_true t r =
-    and_true _ _ (le_true _ _ r.issuer) (and_true _ _ (le_true _ _ r.class) (and_true _ _ (le_true _ _ r.rated) (and_true _ _ (le_true _ _ r.rating)
-    (and_true _ _ (le_true _ _ r.months) (and_true _ _ (le_true _ _ r.positive) (le_true _ _ r.market))))))
-
-and_left : (a b : Bool) → (a && b) ≡ true → a ≡ true
-and_left true b h = refl
-and_left false b h = h
-
-and_right : (a b : Bool) → (a && b) ≡ true → b ≡ true
-and_right true b h = h
-and_right false b h = let z : ◌≡◌ {A = ℕ} 0 1 = cc in absurd (omega arith)
+    and_from _ _ (le_true _ _ r.issuer) (and_from _ _ (le_true _ _ r.class) (and_from _ _ (le_true _ _ r.rated) (and_from _ _ (le_true _ _ r.rating)
+    (and_from _ _ (le_true _ _ r.months) (and_from _ _ (le_true _ _ r.positive) (le_true _ _ r.market))))))
 
 true_le : (a b : ℕ) → leb a b ≡ true → a ≤ b
 true_le a b h = grind (arith, nat_tests)
 
 ranges_from : (t : Terms) → in_range t ≡ true → InRange t
 ranges_from t h =
-    let h₁ = and_right (leb t.issuer 255) _ h in
-    let h₂ = and_right (leb t.class 7) _ h₁ in
-    let h₃ = and_right (leb 1 t.rating) _ h₂ in
-    let h₄ = and_right (leb t.rating 22) _ h₃ in
-    let h₅ = and_right (leb t.months 1200) _ h₄ in
+    let p₁ = and_parts (leb t.issuer 255) _ h in
+    let p₂ = and_parts (leb t.class 7) _ p₁.1 in
+    let p₃ = and_parts (leb 1 t.rating) _ p₂.1 in
+    let p₄ = and_parts (leb t.rating 22) _ p₃.1 in
+    let p₅ = and_parts (leb t.months 1200) _ p₄.1 in
+    let p₆ = and_parts (leb 1 t.market) _ p₅.1 in
     record {
-      issuer = true_le _ _ (and_left _ _ h);
-      class = true_le _ _ (and_left _ _ h₁);
-      rated = true_le _ _ (and_left _ _ h₂);
-      rating = true_le _ _ (and_left _ _ h₃);
-      months = true_le _ _ (and_left _ _ h₄);
-      positive = true_le _ _ (and_left _ _ h₅);
-      market = true_le _ _ (and_right (leb 1 t.market) _ h₅);
+      issuer = true_le _ _ p₁.0;
+      class = true_le _ _ p₂.0;
+      rated = true_le _ _ p₃.0;
+      rating = true_le _ _ p₄.0;
+      months = true_le _ _ p₅.0;
+      positive = true_le _ _ p₆.0;
+      market = true_le _ _ p₆.1;
     }
 
 by_cases : (b : Bool) (P : Type 0) → (b ≡ true → P) → (P → ⊥) → b ≡ false

@@ -1,6 +1,8 @@
 ghost use Rattle.std.specs.Prelude.{◌≡◌, false, length};
 ghost use Rattle.book.specs.Kept.{Grounded, Low, Worths, Amounts};
 
+use crate::places::{EXPOSURES, LOTS, PAIRS};
+use crate::pledges::filled;
 use calls::Exposure;
 use curve::lot::Lot;
 
@@ -14,11 +16,12 @@ pub mod runs;
 // stands, and what the open run works on.
 #[derive(Drop)]
 pub struct Book {
-    lots: [Option<Lot>; 64],
-    exposures: [Option<Exposure>; 16],
-    standing: [u64; 1024],
-    working: [u64; 1024],
+    lots: [Option<Lot>; LOTS],
+    exposures: [Option<Exposure>; EXPOSURES],
+    standing: [u64; PAIRS],
+    working: [u64; PAIRS],
     number: u16,
+    // the number of the latest run, which goes on counting where none is open
     run: u32,
     in_run: bool,
     ghost places: { (length lots ≡ 64) × (length exposures ≡ 16) },
@@ -30,4 +33,24 @@ pub struct Book {
     ghost worths: { Worths lots },
     ghost amounts: { Amounts exposures },
     ghost idle: { (in_run ≡ false → working ≡ standing) },
+}
+
+impl Book {
+    ghost use Rattle.std.specs.Prelude.{◌≤◌};
+    ghost use Rattle.calls.specs.Call.{held_lots, open_exposures};
+    ghost use Rattle.book.specs.View.{view};
+
+    fn held_lots(&self) -> usize
+        ensures count { result ≡ held_lots (view self.now) }
+        ensures bound { result ≤ 64 }
+    {
+        filled(&self.lots)
+    }
+
+    fn open_exposures(&self) -> usize
+        ensures count { result ≡ open_exposures (view self.now) }
+        ensures bound { result ≤ 16 }
+    {
+        filled(&self.exposures)
+    }
 }

@@ -3,5 +3,6 @@
 
 mod asking;
 pub mod book;
+mod places;
 mod pledges;
 pub mod slip;

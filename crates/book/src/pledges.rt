@@ -1,102 +1,90 @@
 // Walks over pledge tables and places.
 
-ghost use Rattle.std.specs.Prelude.{◌≡◌, ℕ, ◌+◌, ◌^◌, ◌<◌, ◌≤◌, length, if◌then◌else◌, ◌≢◌, nat_eq, nat_lt, slice_set};
+ghost use Rattle.std.specs.Prelude.{◌≡◌, ℕ, ◌+◌, ◌^◌, ◌<◌, ◌≤◌, length, if◌then◌else◌, ◌≢◌, nat_eq, nat_lt, slice_set, is_some, slice_index, slice_index_or, None};
 ghost use Rattle.network.specs.Sums.{sum_over};
-ghost use Rattle.calls.specs.State.{table, held_at, open_at};
+ghost use Rattle.calls.specs.State.{table};
 ghost use Rattle.calls.specs.Call.{count};
 ghost use Rattle.calls.specs.Instructions.{moves, move, changes, closings, written};
 ghost use Rattle.calls.specs.Step.{zeroed};
 ghost use Rattle.book.specs.Kept.{Low};
 
-use calls::{Exposure, Instruction};
-use curve::lot::Lot;
+use crate::places::{EXPOSURES, LOTS, PAIRS, Place};
+use calls::Instruction;
+
+// The pledges of a lot.
+fn row(pledges: &[u64; PAIRS], lot: Place<LOTS>) -> &[u64]
+    ensures all { length result.now ≡ 16 }
+    ensures each { (e : ℕ) → e < 16 → slice_index result.now e ≡ table pledges.now lot.at e }
+{
+    let first = lot.at * EXPOSURES;
+    &pledges[first..first + EXPOSURES]
+}
 
 // Whether a lot has a pledge.
-pub fn is_pledged(pledges: &[u64; 1024], lot: usize) -> bool
-    requires { lot < 64 }
-    ensures { result ≡ nat_lt 0 (sum_over 16 (λ e. table pledges.now lot e)) }
+pub fn is_pledged(pledges: &[u64; PAIRS], lot: Place<LOTS>) -> bool
+    ensures { result ≡ nat_lt 0 (sum_over 16 (λ e. table pledges.now lot.at e)) }
 {
-    for x in 0..16usize {
-        if pledges[lot * 16 + x] > 0 {
-            return true;
-        }
-    }
-    false
+    row(pledges, lot).iter().any(|pledge| *pledge > 0)
 }
 
 // Makes every pledge to an exposure 0.
-pub fn zero_column(pledges: &mut [u64; 1024], exposure: usize)
-    requires { exposure < 16 }
-    ensures { pledges.new ≡ zeroed pledges.old exposure 64 }
+pub fn zero_column(pledges: &mut [u64; PAIRS], exposure: Place<EXPOSURES>)
+    ensures { pledges.new ≡ zeroed pledges.old exposure.at 64 }
 {
-    for lot in 0..64usize {
-        pledges[lot * 16 + exposure] = 0;
+    for place in (exposure.at..PAIRS).step_by(EXPOSURES) {
+        pledges[place] = 0;
     }
 }
 
-pub fn held_lots(lots: &[Option<Lot>; 64]) -> usize
-    ensures count { result ≡ count 64 (held_at lots.now) }
-    ensures bound { result ≤ 64 }
+// How many places are filled.
+pub fn filled<T: Copy>(places: &[Option<T>]) -> usize
+    ensures count { result ≡ count (length places.now) (λ k. is_some (slice_index_or places.now k None)) }
+    ensures bound { result ≤ length places.now }
 {
-    let mut n = 0;
-    for place in 0..64usize {
-        if lots[place].is_some() {
-            n += 1;
-        }
-    }
-    n
+    places.iter().filter(|place| place.is_some()).count()
 }
 
-pub fn open_exposures(exposures: &[Option<Exposure>; 16]) -> usize
-    ensures count { result ≡ count 16 (open_at exposures.now) }
-    ensures bound { result ≤ 16 }
-{
-    let mut n = 0;
-    for e in 0..16usize {
-        if exposures[e].is_some() {
-            n += 1;
-        }
-    }
-    n
-}
-
-// The instruction by which a pledge goes from `old` to `new`.
-fn instruction(lot: usize, exposure: usize, old: u64, new: u64) -> Instruction
-    requires { (lot < 64) × (exposure < 16) × (old < 2 ^ 40) × (new < 2 ^ 40) }
-    ensures { result ≡ moves lot exposure old new }
-{
-    Instruction {
-        lot: lot as u8,
-        exposure: exposure as u8,
-        amount: new as i64 - old as i64,
-    }
-}
-
-// Writes that instruction at `n` if there is a change, and returns the number of records then.
-fn note(
-    list: &mut [Instruction],
-    n: usize,
+// A pledge of the lot at a place to the exposure at a place that goes from `old` to `new`.
+#[derive(Clone, Copy)]
+struct Change {
     lot: usize,
     exposure: usize,
     old: u64,
     new: u64,
-) -> usize
-    requires range { (lot < 64) × (exposure < 16) × (old < 2 ^ 40) × (new < 2 ^ 40) }
-    requires room { (new ≢ old) → n < length list.old }
-    ensures count { result ≡ n + length (move lot exposure old new) }
-    ensures list { list.new ≡ (if nat_eq new old then list.old else slice_set list.old n (moves lot exposure old new)) }
-{
-    if new == old {
-        return n;
+    ghost within: { (lot < 64) × (exposure < 16) },
+    ghost low: { (old < 2 ^ 40) × (new < 2 ^ 40) },
+}
+
+impl Change {
+    fn instruction(self) -> Instruction
+        ensures { result ≡ moves self.lot self.exposure self.old self.new }
+    {
+        Instruction {
+            lot: self.lot as u8,
+            exposure: self.exposure as u8,
+            amount: self.new as i64 - self.old as i64,
+        }
     }
-    list[n] = instruction(lot, exposure, old, new);
-    n + 1
+
+    // Writes its instruction behind the first `count` if the pledge differs, and returns their number
+    // then. The list is the caller's, so the number stands beside it.
+    fn write(self, list: &mut [Instruction], count: usize) -> usize
+        requires room { (self.new ≢ self.old) → count < length list.old }
+        ensures count { result ≡ count + length (move self.lot self.exposure self.old self.new) }
+        ensures list { list.new ≡ (if nat_eq self.new self.old then list.old else slice_set list.old count (moves self.lot self.exposure self.old self.new)) }
+    {
+        if self.new == self.old {
+            return count;
+        }
+        list[count] = self.instruction();
+        count + 1
+    }
 }
 
 // Writes one instruction for each place where the tables differ, and returns their number.
 pub fn write_changes(
-    standing: &[u64; 1024],
-    working: &[u64; 1024],
+    standing: &[u64; PAIRS],
+    working: &[u64; PAIRS],
     list: &mut [Instruction],
 ) -> usize
     requires low { Low standing.now × Low working.now }
@@ -105,24 +93,40 @@ pub fn write_changes(
     ensures fits { result ≤ length list.old }
     ensures after { list.new ≡ written (changes standing.now working.now 1024) list.old }
 {
-    let mut n = 0;
-    for i in 0..1024usize {
-        n = note(list, n, i / 16, i % 16, standing[i], working[i]);
+    let mut count = 0;
+    for (place, (old, new)) in standing.iter().zip(working).enumerate() {
+        let change = Change {
+            lot: place / EXPOSURES,
+            exposure: place % EXPOSURES,
+            old: *old,
+            new: *new,
+        };
+        count = change.write(list, count);
     }
-    n
+    count
 }
 
 // Writes one instruction for each pledge to an exposure, which goes to 0, and returns their number.
-pub fn write_closings(standing: &[u64; 1024], exposure: usize, list: &mut [Instruction]) -> usize
-    requires low { Low standing.now × (exposure < 16) }
-    requires room { length (closings standing.now exposure 64) ≤ length list.old }
-    ensures count { result ≡ length (closings standing.now exposure 64) }
+pub fn write_closings(
+    standing: &[u64; PAIRS],
+    exposure: Place<EXPOSURES>,
+    list: &mut [Instruction],
+) -> usize
+    requires low { Low standing.now }
+    requires room { length (closings standing.now exposure.at 64) ≤ length list.old }
+    ensures count { result ≡ length (closings standing.now exposure.at 64) }
     ensures fits { result ≤ length list.old }
-    ensures after { list.new ≡ written (closings standing.now exposure 64) list.old }
+    ensures after { list.new ≡ written (closings standing.now exposure.at 64) list.old }
 {
-    let mut n = 0;
-    for l in 0..64usize {
-        n = note(list, n, l, exposure, standing[l * 16 + exposure], 0);
+    let mut count = 0;
+    for (lot, row) in standing.chunks_exact(EXPOSURES).enumerate() {
+        let change = Change {
+            lot,
+            exposure: exposure.at,
+            old: row[exposure.at],
+            new: 0,
+        };
+        count = change.write(list, count);
     }
-    n
+    count
 }

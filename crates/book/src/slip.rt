@@ -3,6 +3,7 @@
 
 ghost use Rattle.std.specs.Prelude.{◌≡◌};
 
+#[derive(PartialEq, Eq, Debug)]
 pub struct Slip {
     pub(crate) book: u16,
     pub(crate) run: u32,
@@ -14,5 +15,10 @@ impl Slip {
         ensures { result ≡ self.now.run }
     {
         self.run
+    }
+
+    // Once its run is over.
+    pub(crate) fn spend(self) {
+        let Slip { book: _, run: _ } = self;
     }
 }

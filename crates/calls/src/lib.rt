@@ -5,14 +5,14 @@
 ghost use Rattle.calls.specs.Laws.{EveryLifeSound, SmallestCause, ToldByCalls};
 
 // An exposure: a lender's loan that wants cover.
-#[derive(Clone, Copy)]
+#[derive(Clone, Copy, PartialEq, Eq, Debug)]
 pub struct Exposure {
     pub amount: u64,
     pub schedule: u64,
 }
 
 // A change of one pledge: what the lot at a place pledges to the exposure at a place, more or less.
-#[derive(Clone, Copy)]
+#[derive(Clone, Copy, PartialEq, Eq, Debug)]
 pub struct Instruction {
     pub lot: u8,
     pub exposure: u8,

@@ -15,9 +15,8 @@ use Rattle.calls.specs.declared.Instruction.{Instruction}
 use Rattle.calls.specs.State.{State}
 use Rattle.calls.specs.Life.{Life, next, Sound}
 use Rattle.calls.proofs.Lives.{every_life_sound}
-use Rattle.life.specs.Turn.{Turn, made, idle, Played, none, more}
+use Rattle.life.specs.Turn.{Outcome, Turn, made, idle, Played, none, more}
 use Rattle.life.specs.declared.order.Order.{Order}
-use Rattle.life.specs.declared.order.Outcome.{Outcome}
 
 take_past : {A : Type 0} (a b : List A) (n : ℕ) → take (length a + n) (a ++ b) ≡ a ++ take n b
 take_past [] b n = rw zero-add
@@ -93,14 +92,9 @@ lived {m} {k} {number} {s} {t} {os} {rs} {given} life none = subst (λ xs. Life 
 lived {m} {k} {number} {s} {t} {os} {rs} {given} life (more {given = old} before o r new u turn) =
     subst (λ xs. Life m number u xs) (append_assoc given old new) (turned (lived life before) turn)
 
-pub sound : (m : Meaning) (number : ℕ) (t : State) (given : List Instruction) → Life m number t given → Sound m t given
-sound m number t given life = every_life_sound m number t given life
-
-pub omega_min : (a b i : ℕ) → i < min a b → (i < a) × (i < b)
-omega_min a b i h = elim (dec_le a b) [
-  | yes l ↦ (let e : min a b ≡ a = min-eq_left l in (omega arith, omega arith))
-  | no l ↦ (let le : b ≤ a = omega arith in let e : min a b ≡ b = min-eq_right le in (omega arith, omega arith))
-]
+pub lived_soundly : {m : Meaning} {k : Card} {s t : State} {os : List Order} {rs : List Outcome} {new : List Instruction} → Played m k s os rs new t
+    → (number : ℕ) (given : List Instruction) → Life m number s given → Life m number t (given ++ new) × Sound m t (given ++ new)
+lived_soundly {m} {k} {s} {t} {os} {rs} {new} all number given life = let now = lived life all in (now, every_life_sound m number t (given ++ new) now)
 
 -- what lies behind the outcomes told of
 pub drop_rest : {A : Type 0} (xs ys : List A) (i n : ℕ) → length xs ≡ length ys → i ≡ min n (length ys) → drop i xs ≡ drop i ys → drop n xs ≡ drop n ys

@@ -1,6 +1,6 @@
 -- Behind the instructions that a call writes, the list that it was lent is as it was; a refusal leaves all of it.
 
-use Rattle.std.proofs.Common.{◌≡◌, ℕ, List, length, drop, Some, None, Option, refl, ap, arith}
+use Rattle.std.proofs.Common.{◌≡◌, ℕ, List, length, drop, Some, None, Option, refl, ap}
 use Rattle.std.proofs.lemmas.List.{drop_at}
 use Rattle.cause.specs.declared.Cause.{Cause}
 use Rattle.binder.specs.Meaning.{Meaning}
@@ -22,13 +22,13 @@ module _ (m : Meaning) (s t : State) where
   pub closed_rest : (p : ℕ) (list new : List Instruction) (n : ℕ) → Step m (close p list) s (closed n new) t → drop n new ≡ drop n list
   closed_rest p list new n = decided (cause m s (close p list)) where
     decided : (v : Option Cause) → Decided v m (close p list) s (closed n new) t → drop n new ≡ drop n list
-    decided (Some e) (eo, et) = let z : ◌≡◌ {A = ℕ} 0 1 = cc in absurd (omega arith)
+    decided (Some e) (eo, et) = absurd (cc)
     decided None (eo, et) = written_rest (closings s.standing p 64) list new n (cc) (cc)
 
   pub settled_rest : (x : Numbers) (list new : List Instruction) (n : ℕ) → Step m (settle x list) s (settled n new) t → drop n new ≡ drop n list
   settled_rest x list new n = decided (cause m s (settle x list)) where
     decided : (v : Option Cause) → Decided v m (settle x list) s (settled n new) t → drop n new ≡ drop n list
-    decided (Some e) (eo, et) = let z : ◌≡◌ {A = ℕ} 0 1 = cc in absurd (omega arith)
+    decided (Some e) (eo, et) = absurd (cc)
     decided None (eo, et) = written_rest (changes s.standing s.working 1024) list new n (cc) (cc)
 
   pub close_kept : (p : ℕ) (list new : List Instruction) (e : Cause) → Step m (close p list) s (refused e (record { slip = None; list = new; note = None })) t → new ≡ list

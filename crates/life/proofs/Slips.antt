@@ -1,7 +1,8 @@
 -- Orders as calls, and the slip that is held after each.
 
-use Rattle.std.proofs.Common.{◌≡◌, ℕ, Bool, true, false, cond, not, ◌&&◌, eqb, leb, List, [], take, Some, None, Ok, Err, Option, Result, sym, refl, ap, ◌∙◌, subst, inl, inr, arith, eq-eqb}
-use Rattle.std.proofs.lemmas.Bool.{eqb-true}
+use Rattle.std.proofs.Common.{◌≡◌, ℕ, Bool, true, false, cond, not, eqb, leb, List, [], Some, None, Ok, Err, Option, Result, sym, refl, ap, ◌∙◌, subst, inl, inr, eq-eqb}
+use Rattle.std.specs.Option.{ok_or}
+use Rattle.std.proofs.lemmas.Bool.{eqb-true, and_parts}
 use Rattle.cause.specs.declared.Cause.{Cause}
 use Rattle.cause.specs.declared.Cause.TheVariants.{RunOpen, RunsSpent, SlipStale}
 use Rattle.binder.specs.Meaning.{Meaning}
@@ -16,36 +17,25 @@ use Rattle.calls.specs.Call.Outcome.{refused, short, added, withdrawn, exposed, 
 use Rattle.calls.specs.Step.{Step, Decided, Grants}
 use Rattle.book.specs.View.{numbers}
 use Rattle.book.specs.declared.slip.Slip.{Slip}
-use Rattle.life.specs.Turn.{slip_of, with_slip, told, count_of, Turn, made, idle}
+use Rattle.life.specs.Turn.{slip_of, with_slip, told, count_of, Turn}
 use Rattle.life.specs.Matched.{has_slip}
 use Rattle.life.specs.Reported.{reported}
-use Rattle.book.specs.Answers.{allocating}
+use Rattle.book.specs.Answers.{allocating, abandoning}
 use Rattle.book.specs.declared.book.allocate.AllocateFault.{AllocateFault}
 use Rattle.book.specs.declared.book.allocate.AllocateFault.TheVariants as fault
-use Rattle.curve.specs.declared.lot.Terms.{Terms}
 use Rattle.life.specs.declared.order.Order.{Order}
-use Rattle.life.specs.declared.order.Order.TheVariants as order
-use Rattle.life.specs.declared.order.Outcome.{Outcome}
 
 -- a record that no call reads
 pub blank_note : Record
 blank_note = record { exposures = 0; lots = 0; issuers = [] }
 
-left_true : (a b : Bool) → (a && b) ≡ true → a ≡ true
-left_true true b h = refl
-left_true false b h = h
-
-right_true : (a b : Bool) → (a && b) ≡ true → b ≡ true
-right_true true b h = h
-right_true false b h = let z : ◌≡◌ {A = ℕ} 0 1 = cc in absurd (omega arith)
-
 -- the slip that is held is that of the open run
 pub slip_held : (s : State) (x : Slip) → has_slip s (Some x) ≡ true → slip_of s ≡ Some (numbers x)
 slip_held s x h =
-    let run = left_true s.in_run _ h in
-    let both = right_true s.in_run _ h in
-    let book : x.book ≡ s.number = eqb-true _ _ (left_true _ _ both) in
-    let latest : x.run ≡ s.run = eqb-true _ _ (right_true (eqb x.book s.number) _ both) in
+    let run = (and_parts s.in_run _ h).0 in
+    let both = and_parts _ _ (and_parts s.in_run _ h).1 in
+    let book : x.book ≡ s.number = eqb-true _ _ both.0 in
+    let latest : x.run ≡ s.run = eqb-true _ _ both.1 in
     ap (λ b. cond b (Some (record { book = s.number; run = s.run })) None) run ∙ named s.number x.book s.run x.run book latest where
       named : (a b c d : ℕ) → b ≡ a → d ≡ c → ◌≡◌ {A = Option Numbers} (Some (record { book = a; run = c })) (Some (record { book = b; run = d }))
       named a b c d p q = ap (λ n. Some (record { book = n; run = c })) (sym p) ∙ ap (λ n. Some (record { book = b; run = n })) (sym q)
@@ -72,41 +62,36 @@ module _ (m : Meaning) (s t : State) where
   pub begun : (n : Numbers) → Step m begin s (began n) t → (t.in_run ≡ true) × (t.number ≡ n.book) × (t.run ≡ n.run)
   begun n = decided (cause m s begin) where
     decided : (v : Option Cause) → Decided v m begin s (began n) t → (t.in_run ≡ true) × (t.number ≡ n.book) × (t.run ≡ n.run)
-    decided (Some e) (eo, et) = let z : ◌≡◌ {A = ℕ} 0 1 = cc in absurd (omega arith)
+    decided (Some e) (eo, et) = absurd (cc)
     decided None (eo, et) = (ap (λ (x : State). x.in_run) et, (cc), (cc))
 
   pub settled_over : (x : Numbers) (list new : List Instruction) (n : ℕ) → Step m (settle x list) s (settled n new) t → t.in_run ≡ false
   settled_over x list new n = decided (cause m s (settle x list)) where
     decided : (v : Option Cause) → Decided v m (settle x list) s (settled n new) t → t.in_run ≡ false
-    decided (Some e) (eo, et) = let z : ◌≡◌ {A = ℕ} 0 1 = cc in absurd (omega arith)
+    decided (Some e) (eo, et) = absurd (cc)
     decided None (eo, et) = ap (λ (y : State). y.in_run) et
 
   pub abandoned_over : (x : Numbers) → Step m (abandon x) s abandoned t → t.in_run ≡ false
   abandoned_over x = decided (cause m s (abandon x)) where
     decided : (v : Option Cause) → Decided v m (abandon x) s abandoned t → t.in_run ≡ false
-    decided (Some e) (eo, et) = let z : ◌≡◌ {A = ℕ} 0 1 = cc in absurd (omega arith)
+    decided (Some e) (eo, et) = absurd (cc)
     decided None (eo, et) = ap (λ (y : State). y.in_run) et
 
 -- some meaning, for calls that ask no binder
 pub no_meaning : Meaning
 no_meaning = record { held = λ _. false; admits = λ _ _. false; share = λ _ _. 0 }
 
-apart : {A : Type 0} → ◌≡◌ {A = ℕ} 0 1 → A
-apart z = absurd (zero_one z) where
-  zero_one : ◌≡◌ {A = ℕ} 0 1 → ⊥
-  zero_one z = omega arith
-
 -- a refusal leaves the state, and hands back what was passed
 never_refused : (m : Meaning) (c : Call) (s t : State) (e : Cause) (b : call.Back) → Grants m c s (refused e b) t → ⊥
-never_refused m (add p x k) s t e b (h, w, eo, et) = let z : ◌≡◌ {A = ℕ} 0 1 = cc in omega arith
-never_refused m (withdraw p) s t e b (eo, et) = let z : ◌≡◌ {A = ℕ} 0 1 = cc in omega arith
-never_refused m (open_exposure p a n) s t e b (eo, et) = let z : ◌≡◌ {A = ℕ} 0 1 = cc in omega arith
-never_refused m (close p l) s t e b (eo, et) = let z : ◌≡◌ {A = ℕ} 0 1 = cc in omega arith
-never_refused m begin s t e b (eo, et) = let z : ◌≡◌ {A = ℕ} 0 1 = cc in omega arith
-never_refused m (allocate x r) s t e b (inl w) = let eo = w.answer in let z : ◌≡◌ {A = ℕ} 0 1 = cc in omega arith
-never_refused m (allocate x r) s t e b (inr w) = let eo = w.answer in let z : ◌≡◌ {A = ℕ} 0 1 = cc in omega arith
-never_refused m (settle x l) s t e b (eo, et) = let z : ◌≡◌ {A = ℕ} 0 1 = cc in omega arith
-never_refused m (abandon x) s t e b (eo, et) = let z : ◌≡◌ {A = ℕ} 0 1 = cc in omega arith
+never_refused m (add p x k) s t e b (h, w, eo, et) = (cc)
+never_refused m (withdraw p) s t e b (eo, et) = (cc)
+never_refused m (open_exposure p a n) s t e b (eo, et) = (cc)
+never_refused m (close p l) s t e b (eo, et) = (cc)
+never_refused m begin s t e b (eo, et) = (cc)
+never_refused m (allocate x r) s t e b (inl w) = let eo = w.answer in (cc)
+never_refused m (allocate x r) s t e b (inr w) = let eo = w.answer in (cc)
+never_refused m (settle x l) s t e b (eo, et) = (cc)
+never_refused m (abandon x) s t e b (eo, et) = (cc)
 
 pub refused_keeps : (m : Meaning) (c : Call) (s t : State) (e : Cause) (b : call.Back) → Step m c s (refused e b) t → (t ≡ s) × (b ≡ call.kept c)
 refused_keeps m c s t e b = decided (cause m s c) where
@@ -135,10 +120,10 @@ begun_held m s t y step =
 -- no run is opened while one is open
 pub not_begun : (m : Meaning) (s t : State) (x : Slip) (n : Numbers) → has_slip s (Some x) ≡ true → Step m begin s (began n) t → ⊥
 not_begun m s t x n held step =
-    let against : cause m s begin ≡ Some RunOpen = ap (λ b. call.first b RunOpen (call.first (leb 1000000 s.run) RunsSpent None)) (left_true s.in_run _ held) in
+    let against : cause m s begin ≡ Some RunOpen = ap (λ b. call.first b RunOpen (call.first (leb 1000000 s.run) RunsSpent None)) (and_parts s.in_run _ held).0 in
     decided (subst (λ v. Decided v m begin s (began n) t) against step) where
       decided : (◌≡◌ {A = call.Outcome} (began n) (refused RunOpen (call.kept begin))) × (t ≡ s) → ⊥
-      decided (eo, et) = let z : ◌≡◌ {A = ℕ} 0 1 = cc in omega arith
+      decided (eo, et) = (cc)
 
 pub over : (t : State) → t.in_run ≡ false → has_slip t None ≡ true
 over t h = ap not h
@@ -155,10 +140,6 @@ reported_none (Ok r) note = refl
 reported_none (Err fault.Slip) note = refl
 reported_none (Err (fault.Short x)) note = refl
 
--- an outcome that tells of no instructions
-pub none_taken : {m : Meaning} {k : Card} {o : Order} {s t : State} (r : Outcome) (list : List Instruction) → count_of r ≡ 0 → Turn m k o s r [] t → Turn m k o s r (take (count_of r) list) t
-none_taken {m} {k} {o} {s} {t} r list e turn = subst (λ n. Turn m k o s r (take n list) t) (sym e) turn
-
 -- calls that neither open nor end a run leave its slip
 pub record SameRun (s t : State) : Type 0 where
   pub in_run : t.in_run ≡ s.in_run
@@ -168,7 +149,7 @@ pub record SameRun (s t : State) : Type 0 where
 same : (s t : State) → t ≡ s → SameRun s t
 same s t e = record { in_run = ap (λ (x : State). x.in_run) e; number = ap (λ (x : State). x.number) e; run = ap (λ (x : State). x.run) e }
 
-KeepsRun : Call → State → State → Type 0
+abbrev pub KeepsRun : Call → State → State → Type 0
 KeepsRun (add p x k) s t = SameRun s t
 KeepsRun (withdraw p) s t = SameRun s t
 KeepsRun (open_exposure p a n) s t = SameRun s t
@@ -179,7 +160,6 @@ KeepsRun (settle x l) s t = Unit {0}
 KeepsRun (abandon x) s t = Unit {0}
 
 kept_same : (c : Call) (s t : State) → t ≡ s → KeepsRun c s t
-unfolding KeepsRun
 kept_same (add p x k) s t e = same s t e
 kept_same (withdraw p) s t e = same s t e
 kept_same (open_exposure p a n) s t e = same s t e
@@ -193,7 +173,6 @@ fields : (s t u : State) → t ≡ u → u.in_run ≡ s.in_run → u.number ≡ 
 fields s t u e a b c = record { in_run = ap (λ (x : State). x.in_run) e ∙ a; number = ap (λ (x : State). x.number) e ∙ b; run = ap (λ (x : State). x.run) e ∙ c }
 
 grants_keep : (m : Meaning) (c : Call) (s t : State) (o : call.Outcome) → Grants m c s o t → KeepsRun c s t
-unfolding KeepsRun
 grants_keep m (add p x k) s t o (h, w, eo, et) = fields s t _ et refl refl refl
 grants_keep m (withdraw p) s t o (eo, et) = fields s t _ et refl refl refl
 grants_keep m (open_exposure p a n) s t o (eo, et) = fields s t _ et refl refl refl
@@ -204,55 +183,33 @@ grants_keep m (allocate x r) s t o (inr w) = same s t w.same
 grants_keep m (settle x l) s t o g = tt
 grants_keep m (abandon x) s t o g = tt
 
-step_keeps : (m : Meaning) (c : Call) (s t : State) (o : call.Outcome) → Step m c s o t → KeepsRun c s t
+pub step_keeps : (m : Meaning) (c : Call) (s t : State) (o : call.Outcome) → Step m c s o t → KeepsRun c s t
 step_keeps m c s t o = decided (cause m s c) where
   decided : (v : Option Cause) → Decided v m c s o t → KeepsRun c s t
   decided (Some k) (eo, et) = kept_same c s t et
   decided None g = grants_keep m c s t o g
 
--- the same of orders
-unwrap : {a b : Call} → Some a ≡ Some b → a ≡ b
-unwrap p = cc
-
-module _ {m : Meaning} {k : Card} {s : State} where
-  pub add_keeps : {p : ℕ} {x : Terms} {r : Outcome} {new : List Instruction} {t : State} → Turn m k (order.Add p x) s r new t → SameRun s t
-  unfolding KeepsRun
-  add_keeps {p} {x} (made list note c e r t step) = step_keeps m (add p x k) s t r (subst (λ (d : Call). Step m d s r t) (sym (unwrap e)) step)
-  add_keeps (idle e) = same s s refl
-
-  pub withdraw_keeps : {p : ℕ} {r : Outcome} {new : List Instruction} {t : State} → Turn m k (order.Withdraw p) s r new t → SameRun s t
-  unfolding KeepsRun
-  withdraw_keeps {p} (made list note c e r t step) = step_keeps m (withdraw p) s t r (subst (λ (d : Call). Step m d s r t) (sym (unwrap e)) step)
-  withdraw_keeps (idle e) = same s s refl
-
-  pub open_keeps : {p a n : ℕ} {r : Outcome} {new : List Instruction} {t : State} → Turn m k (order.Open p a n) s r new t → SameRun s t
-  unfolding KeepsRun
-  open_keeps {p} {a} {n} (made list note c e r t step) = step_keeps m (open_exposure p a n) s t r (subst (λ (d : Call). Step m d s r t) (sym (unwrap e)) step)
-  open_keeps (idle e) = same s s refl
-
-  pub close_keeps : {p : ℕ} {r : Outcome} {new : List Instruction} {t : State} → Turn m k (order.Close p) s r new t → SameRun s t
-  unfolding KeepsRun
-  close_keeps {p} (made list note c e r t step) = step_keeps m (close p list) s t r (subst (λ (d : Call). Step m d s r t) (sym (unwrap e)) step)
-  close_keeps (idle e) = same s s refl
-
-  pub allocate_keeps : {r : Outcome} {new : List Instruction} {t : State} → Turn m k order.Allocate s r new t → SameRun s t
-  unfolding KeepsRun
-  allocate_keeps (made list note c e r t step) = by_slip (slip_of s) refl where
-    by_slip : (n : Option Numbers) → slip_of s ≡ n → SameRun s t
-    by_slip None is = let z : with_slip None (λ x. allocate x note) ≡ Some c = subst (λ n. with_slip n (λ x. allocate x note) ≡ Some c) is e in let w : ◌≡◌ {A = ℕ} 0 1 = cc in apart w
-    by_slip (Some n) is = step_keeps m (allocate n note) s t r (subst (λ (d : Call). Step m d s r t) (sym (unwrap (subst (λ x. with_slip x (λ y. allocate y note) ≡ Some c) is e))) step)
-  allocate_keeps (idle e) = same s s refl
-
 pub still_held : (s t : State) (x : Option Slip) → SameRun s t → has_slip s x ≡ true → has_slip t x ≡ true
 still_held s t None r h = rw r.in_run h
 still_held s t (Some x) r h = rw (r.in_run, r.number, r.run) h
-
--- an order that is known by an equation
-pub turn_of : {m : Meaning} {k : Card} {o o' : Order} {s t : State} {r : Outcome} {new : List Instruction} → o ≡ o' → Turn m k o' s r new t → Turn m k o s r new t
-turn_of {m} {k} {o} {o'} {s} {t} {r} {new} e turn = subst (λ x. Turn m k x s r new t) (sym e) turn
 
 -- the slip of the open run is never refused for an abandoning
 pub never_stale : (m : Meaning) (s t : State) (x : Slip) → has_slip s (Some x) ≡ true → (e : Cause) (b : call.Back) → Step m (abandon (numbers x)) s (refused e b) t → ⊥
 never_stale m s t x held e b step =
     let free : cause m s (abandon (numbers x)) ≡ None = ap (λ v. call.first (not v) SlipStale None) held in
     never_refused m (abandon (numbers x)) s t e b (subst (λ v. Decided v m (abandon (numbers x)) s (refused e b) t) free step)
+
+-- so an abandoning with it ends the run
+pub abandon_ends : (m : Meaning) (s t : State) (x : Slip) → has_slip s (Some x) ≡ true → (r : Result (Unit {0}) (Cause × Slip)) → Step m (abandon (numbers x)) s (abandoning r) t → t.in_run ≡ false
+abandon_ends m s t x held (Ok u) step = abandoned_over m s t (numbers x) step
+abandon_ends m s t x held (Err (e, y)) step = absurd (never_stale m s t x held e _ step)
+
+-- where a run is opened, no slip is held
+pub no_slip : (m : Meaning) (s t : State) (x : Option Slip) (n : Numbers) → has_slip s x ≡ true → Step m begin s (began n) t → x ≡ None
+no_slip m s t None n held step = refl
+no_slip m s t (Some x) n held step = absurd (not_begun m s t x n held step)
+
+-- a value that is wanted is not there
+pub none_left : {A E : Type 0} (o : Option A) (x e : E) → Err e ≡ ok_or o x → (o ≡ None) × (e ≡ x)
+none_left None x e h = (refl, (cc))
+none_left (Some a) x e h = absurd (cc)

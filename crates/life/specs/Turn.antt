@@ -1,6 +1,6 @@
 -- To believe: what it means that an order, and a list of orders, is carried out.
 
-use Rattle.std.specs.Prelude.{◌≡◌, ℕ, cond, List, [], ◌∷◌, ◌++◌, Some, None, Option}
+use Rattle.std.specs.Prelude.{◌≡◌, ℕ, cond, List, [], ◌∷◌, ◌++◌, Some, None, Ok, Err, Option, Result}
 use Rattle.binder.specs.Meaning.{Meaning}
 use Rattle.curve.specs.declared.card.Card.{Card}
 use Rattle.calls.specs.declared.Instruction.{Instruction}
@@ -13,8 +13,10 @@ use Rattle.calls.specs.Call as call
 use Rattle.calls.specs.Step.{Step}
 use Rattle.life.specs.declared.order.Order.{Order}
 use Rattle.life.specs.declared.order.Order.TheVariants as order
-use Rattle.life.specs.declared.order.Outcome.{Outcome}
-use Rattle.life.specs.declared.order.Outcome.TheVariants as outcome
+use Rattle.life.specs.declared.order.Granted.{Granted}
+use Rattle.life.specs.declared.order.Granted.TheVariants as grant
+use Rattle.life.specs.declared.order.Refused.{Refused}
+use Rattle.life.specs.declared.order.Refused.TheVariants as refusal
 
 -- the slip of the open run
 abbrev pub slip_of : State → Option Numbers
@@ -36,38 +38,44 @@ call_of k s list note order.Allocate = with_slip (slip_of s) (λ n. allocate n n
 call_of k s list note order.Settle = with_slip (slip_of s) (λ n. settle n list)
 call_of k s list note order.Abandon = with_slip (slip_of s) (λ n. abandon n)
 
+-- what is told of an order: what it did, or why it did nothing
+abbrev pub Outcome : Type 0
+Outcome = Result Granted Refused
+
 -- what is told of a call's outcome
 abbrev pub told : call.Outcome → Outcome
-told (refused e b) = outcome.Refused e
-told (short x r) = outcome.Short x r
-told (added v) = outcome.Added v
-told withdrawn = outcome.Withdrawn
-told exposed = outcome.Opened
-told (closed n list) = outcome.Closed n
-told (began n) = outcome.Began n.run
-told (allocated k r) = outcome.Allocated k
-told (settled n list) = outcome.Settled n
-told abandoned = outcome.Abandoned
+told (refused e b) = Err (refusal.For e)
+told (short x r) = Err (refusal.Short x r)
+told (added v) = Ok (grant.Added v)
+told withdrawn = Ok grant.Withdrawn
+told exposed = Ok grant.Opened
+told (closed n list) = Ok (grant.Closed n)
+told (began n) = Ok (grant.Began n.run)
+told (allocated k r) = Ok (grant.Allocated k)
+told (settled n list) = Ok (grant.Settled n)
+told abandoned = Ok grant.Abandoned
+
+-- how many instructions an order that was granted wrote
+abbrev pub written : Granted → ℕ
+written (grant.Added v) = 0
+written grant.Withdrawn = 0
+written grant.Opened = 0
+written (grant.Closed n) = n
+written (grant.Began n) = 0
+written (grant.Allocated k) = 0
+written (grant.Settled n) = n
+written grant.Abandoned = 0
 
 -- how many instructions an outcome tells of
 abbrev pub count_of : Outcome → ℕ
-count_of (outcome.Refused e) = 0
-count_of (outcome.Short x r) = 0
-count_of (outcome.Added v) = 0
-count_of outcome.Withdrawn = 0
-count_of outcome.Opened = 0
-count_of (outcome.Closed n) = n
-count_of (outcome.Began n) = 0
-count_of (outcome.Allocated k) = 0
-count_of (outcome.Settled n) = n
-count_of outcome.Abandoned = 0
-count_of outcome.NoSlip = 0
+count_of (Ok g) = written g
+count_of (Err e) = 0
 
 -- an order is carried out: its call is made, or there is none to make and nothing happens
 pub data Turn (m : Meaning) (k : Card) (o : Order) (s : State) : Outcome → List Instruction → State → Type 0 where
   made : (list : List Instruction) (note : Record) (c : Call) → call_of k s list note o ≡ Some c
       → (r : call.Outcome) (t : State) → Step m c s r t → Turn m k o s (told r) (given_out r) t
-  idle : ((list : List Instruction) (note : Record) → call_of k s list note o ≡ None) → Turn m k o s outcome.NoSlip [] s
+  idle : ((list : List Instruction) (note : Record) → call_of k s list note o ≡ None) → Turn m k o s (Err refusal.NoSlip) [] s
 
 -- orders are carried out one after the other, from the state s on
 pub data Played (m : Meaning) (k : Card) (s : State) : List Order → List Outcome → List Instruction → State → Type 0 where

@@ -2,5 +2,6 @@
 // law over all lives of a book holds of every session.
 #![tactic(auto)]
 
+mod holder;
 pub mod order;
 pub mod session;

@@ -1,5 +1,7 @@
 // What a session is told to do, and what comes of it.
 
+ghost use Rattle.std.specs.Prelude.{◌≡◌};
+
 use cause::Cause;
 use cover::Record;
 use curve::lot::Terms;
@@ -16,11 +18,9 @@ pub enum Order {
     Abandon,
 }
 
-#[derive(Clone, Copy)]
-pub enum Outcome {
-    Refused(Cause),
-    // the shortage, and the record that explains it
-    Short(u64, Record),
+// What an order did.
+#[derive(Clone, Copy, PartialEq, Eq, Debug)]
+pub enum Granted {
     // the collateral value
     Added(u64),
     Withdrawn,
@@ -34,6 +34,26 @@ pub enum Outcome {
     // how many instructions
     Settled(usize),
     Abandoned,
+}
+
+// Why it did nothing.
+#[derive(Clone, Copy)]
+pub enum Refused {
+    For(Cause),
+    // the shortage, and the record that explains it
+    Short(u64, Record),
     // no run is open, so there is no slip to hand in
     NoSlip,
 }
+
+impl From<Cause> for Refused {
+    ghost use Rattle.life.specs.declared.order.Refused.TheVariants.{For};
+
+    ghost from_gives = { λ cause refused. refused ≡ For cause };
+
+    fn from(cause: Cause) -> Refused {
+        Refused::For(cause)
+    }
+}
+
+pub type Outcome = Result<Granted, Refused>;

@@ -1,17 +1,12 @@
-ghost use Rattle.life.specs.Matched.{Matched};
-
+use crate::holder::Holder;
 use binder::Binder;
-use book::book::Book;
-use book::slip::Slip;
 use curve::card::Card;
 
 pub mod plays;
 
-// One book with the one binder and the card that serve all its calls, and the slip of its open run.
+// One book, with the slip of its open run, and the one binder and the card that serve all its calls.
 pub struct Session<B: Binder> {
-    book: Book,
-    slip: Option<Slip>,
+    holder: Holder,
     binder: B,
     card: Card,
-    ghost matched: { Matched book slip },
 }

@@ -13,7 +13,7 @@ use cause::Cause;
 use cover::Record;
 
 // Why an allocation is refused: for its slip, or since no lawful table covers, with the shortage.
-#[derive(Clone, Copy)]
+#[derive(Clone, Copy, PartialEq, Eq, Debug)]
 pub enum AllocateFault {
     Slip,
     Short(u64),
@@ -55,13 +55,9 @@ impl Book {
     ) -> Result<usize, AllocateFault>
         ensures { Step (B.Binder.meaning binder.now) (allocate_call (numbers slip.now) «record».old) (view self.old) (allocating (numbers slip.now) «record».new result) (view self.new) }
     {
-        let own = self.owns(slip);
-        if !own {
+        if !self.owns(slip) {
             return Err(AllocateFault::Slip);
         }
-        match self.cover(binder, record) {
-            Ok(rounds) => Ok(rounds),
-            Err(shortage) => Err(AllocateFault::Short(shortage)),
-        }
+        self.cover(binder, record).map_err(AllocateFault::Short)
     }
 }

@@ -1,4 +1,4 @@
-ghost use Rattle.std.specs.Prelude.{◌≡◌, ◌≤◌, ◌&&◌, length, IfOk, None, nat_le};
+ghost use Rattle.std.specs.Prelude.{◌≡◌, ◌≤◌, length, IfOk, None};
 ghost use Rattle.binder.specs.Meaning.{Meaning};
 ghost use Rattle.calls.specs.Call.Call.{open_exposure as open_call, close as close_call};
 ghost use Rattle.calls.specs.Call.{held_lots};
@@ -8,17 +8,14 @@ ghost use Rattle.book.specs.View.{view};
 ghost use Rattle.book.specs.Answers.{opening, closing};
 
 use crate::book::Book;
-use crate::pledges::{held_lots, write_closings, zero_column};
+use crate::places::{EXPOSURES, Place};
+use crate::pledges::{write_closings, zero_column};
 use binder::Binder;
 use calls::{Exposure, Instruction};
 use cause::Cause;
 
-// Whether an amount is in its range.
-fn is_amount(amount: u64) -> bool
-    ensures { result ≡ (nat_le 1 amount && nat_le amount 1000000000000) }
-{
-    amount >= 1 && amount <= 1_000_000_000_000
-}
+// The largest amount.
+const LARGEST: u64 = 1_000_000_000_000;
 
 impl Book {
     // Opens an exposure at an empty place, under a schedule that the binder holds.
@@ -31,41 +28,35 @@ impl Book {
     ) -> Result<(), Cause>
         ensures { Step (B.Binder.meaning binder.now) (open_call place amount schedule) (view self.old) (opening result) (view self.new) }
     {
-        if place > 15 {
-            return Err(Cause::PlaceOutside);
-        }
+        let place = Place::<EXPOSURES>::try_from(place)?;
         if self.in_run {
             return Err(Cause::RunOpen);
         }
-        let found = self.exposures[place as usize];
-        if found.is_some() {
+        if self.exposures[place.at].is_some() {
             return Err(Cause::PlaceTaken);
         }
-        let in_range = is_amount(amount);
-        if !in_range {
+        if !(1..=LARGEST).contains(&amount) {
             return Err(Cause::FieldOutside);
         }
-        let held = binder.held(schedule);
-        if !held {
+        if !binder.held(schedule) {
             return Err(Cause::ScheduleUnknown);
         }
-        self.exposures[place as usize] = Some(Exposure { amount, schedule });
+        self.exposures[place.at] = Some(Exposure { amount, schedule });
         Ok(())
     }
 
     // Empties an exposure's place and its pledges, with room in the list for an instruction a lot.
-    fn take_exposure(&mut self, place: u64, list: &mut [Instruction]) -> usize
-        requires place { place ≤ 15 }
+    fn take_exposure(&mut self, place: Place<EXPOSURES>, list: &mut [Instruction]) -> usize
         requires room { held_lots (view self.old) ≤ length list.old }
-        ensures count { result ≡ length (closings self.old.standing place 64) }
+        ensures count { result ≡ length (closings self.old.standing place.at 64) }
         ensures fits { result ≤ length list.old }
-        ensures list { list.new ≡ written (closings self.old.standing place 64) list.old }
-        ensures after { view self.new ≡ with_tables (with_exposure (view self.old) place None) (zeroed self.old.standing place 64) (zeroed self.old.working place 64) }
+        ensures list { list.new ≡ written (closings self.old.standing place.at 64) list.old }
+        ensures after { view self.new ≡ with_tables (with_exposure (view self.old) place.at None) (zeroed self.old.standing place.at 64) (zeroed self.old.working place.at 64) }
     {
-        let count = write_closings(&self.standing, place as usize, list);
-        zero_column(&mut self.standing, place as usize);
-        zero_column(&mut self.working, place as usize);
-        self.exposures[place as usize] = None;
+        let count = write_closings(&self.standing, place, list);
+        zero_column(&mut self.standing, place);
+        zero_column(&mut self.working, place);
+        self.exposures[place.at] = None;
         count
     }
 
@@ -75,17 +66,14 @@ impl Book {
         ensures room { IfOk result (λ n. n ≤ length list.old) }
         ensures step { (m : Meaning) → Step m (close_call place list.old) (view self.old) (closing list.new result) (view self.new) }
     {
-        if place > 15 {
-            return Err(Cause::PlaceOutside);
-        }
+        let place = Place::<EXPOSURES>::try_from(place)?;
         if self.in_run {
             return Err(Cause::RunOpen);
         }
-        let found = self.exposures[place as usize];
-        if found.is_none() {
+        if self.exposures[place.at].is_none() {
             return Err(Cause::PlaceEmpty);
         }
-        if list.len() < held_lots(&self.lots) {
+        if list.len() < self.held_lots() {
             return Err(Cause::ListShort);
         }
         Ok(self.take_exposure(place, list))

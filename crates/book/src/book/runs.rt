@@ -8,10 +8,14 @@ ghost use Rattle.book.specs.View.{view, numbers};
 ghost use Rattle.book.specs.Answers.{beginning, settling, abandoning};
 
 use crate::book::Book;
-use crate::pledges::{held_lots, open_exposures, write_changes};
+use crate::places::{EXPOSURES, LOTS, PAIRS};
+use crate::pledges::write_changes;
 use crate::slip::Slip;
 use calls::Instruction;
 use cause::Cause;
+
+// The most runs that a book opens.
+const RUNS: u32 = 1_000_000;
 
 impl Book {
     // An empty book with no run.
@@ -19,10 +23,10 @@ impl Book {
         ensures { view result ≡ new_state number }
     {
         Book {
-            lots: [None; 64],
-            exposures: [None; 16],
-            standing: [0u64; 1024],
-            working: [0u64; 1024],
+            lots: [None; LOTS],
+            exposures: [None; EXPOSURES],
+            standing: [0; PAIRS],
+            working: [0; PAIRS],
             number,
             run: 0,
             in_run: false,
@@ -33,7 +37,7 @@ impl Book {
     pub(super) fn owns(&self, slip: &Slip) -> bool
         ensures { result ≡ own (view self.now) (numbers slip.now) }
     {
-        self.in_run && slip.book == self.number && slip.run == self.run
+        self.open_run() == Some(slip.run) && slip.book == self.number
     }
 
     // Opens the next run and hands out its slip.
@@ -43,7 +47,7 @@ impl Book {
         if self.in_run {
             return Err(Cause::RunOpen);
         }
-        if self.run >= 1_000_000 {
+        if self.run >= RUNS {
             return Err(Cause::RunsSpent);
         }
         self.run += 1;
@@ -60,17 +64,15 @@ impl Book {
         ensures room { IfOk result (λ n. n ≤ length list.old) }
         ensures step { (m : Meaning) → Step m (settle_call (numbers slip) list.old) (view self.old) (settling list.new result) (view self.new) }
     {
-        let own = self.owns(&slip);
-        if !own {
+        if !self.owns(&slip) {
             return Err((Cause::SlipStale, slip));
         }
-        if list.len() < held_lots(&self.lots) * open_exposures(&self.exposures) {
+        if list.len() < self.held_lots() * self.open_exposures() {
             return Err((Cause::ListShort, slip));
         }
-        let Slip { book: _, run: _ } = slip;
+        slip.spend();
         let count = write_changes(&self.standing, &self.working, list);
-        let working = self.working;
-        self.standing = working;
+        self.standing = self.working;
         self.in_run = false;
         Ok(count)
     }
@@ -79,13 +81,11 @@ impl Book {
     pub fn abandon(&mut self, slip: Slip) -> Result<(), (Cause, Slip)>
         ensures { (m : Meaning) → Step m (abandon_call (numbers slip)) (view self.old) (abandoning result) (view self.new) }
     {
-        let own = self.owns(&slip);
-        if !own {
+        if !self.owns(&slip) {
             return Err((Cause::SlipStale, slip));
         }
-        let Slip { book: _, run: _ } = slip;
-        let standing = self.standing;
-        self.working = standing;
+        slip.spend();
+        self.working = self.standing;
         self.in_run = false;
         Ok(())
     }

@@ -1,21 +1,21 @@
 use Rattle.std.proofs.Common.{◌<◌, length, None, sym, ap, ◌∙◌, arith, length-set}
 use Rattle.calls.specs.Situation.{amount_of}
 use Rattle.calls.specs.Step.{zeroed}
-use Rattle.book.proofs.Places.{low_set, zeroed_length, zeroed_low, exposure_emptied}
+use Rattle.book.proofs.Pledged.{low_set, zeroed_length, zeroed_low, exposure_emptied}
 use Rattle.book.proofs.Few.{few_closings}
 use Rattle.book.proofs.book.Book.take_exposure.Goals as goal
 
 pub write_closings-count-requires : goal.write_closings-count-requires
 write_closings-count-requires c =
     let b = c.args.self.now in
-    let few = few_closings b.lots b.exposures b.standing b.grounded c.args.place (omega arith) in
-    record { low = (b.low, omega arith); room = omega (arith, few, c.requires.room) }
+    let few = few_closings b.lots b.exposures b.standing b.grounded c.args.place.at c.args.place.within in
+    record { low = b.low; room = omega (arith, few, c.requires) }
 
 pub invariant_of-self : goal.invariant_of-self
 invariant_of-self c =
     let b = c.args.self.now in
-    let e = c.args.place in
-    let within : e < 16 = omega arith in
+    let e = c.args.place.at in
+    let within : e < 16 = c.args.place.within in
     let st = c.zero_column.new.pledges in
     let wt = c.zero_column-2.new.pledges in
     let is = c.zero_column.ensures in

@@ -2,13 +2,13 @@ use Rattle.std.proofs.Common.{◌≡◌, false, ltb, None, ap, ◌∙◌, arith,
 use Rattle.network.specs.Sums.{sum_over}
 use Rattle.calls.specs.State.{table}
 use Rattle.calls.specs.Situation.{worth_of}
-use Rattle.book.proofs.Places.{low_set, lot_emptied}
+use Rattle.book.proofs.Pledged.{low_set, lot_emptied}
 use Rattle.book.proofs.book.Book.take_lot.Goals as goal
 
 pub invariant_of-self : goal.invariant_of-self
 invariant_of-self c =
     let b = c.args.self.now in
-    let p = c.args.place in
+    let p = c.args.place.at in
     let free : ltb 0 (sum_over 16 (λ e. table b.standing p e)) ≡ false = c.requires.free in
     let free_working : ltb 0 (sum_over 16 (λ e. table b.working p e)) ≡ false = ap (λ t. ltb 0 (sum_over 16 (λ e. table t p e))) (b.idle c.requires.idle) ∙ free in
     record {

@@ -1,6 +1,6 @@
 -- Places of lots and exposures that are filled or emptied, and the pledges that lie on them.
 
-use Rattle.std.proofs.Common.{◌≡◌, ℕ, zero, suc, ◌+◌, ◌*◌, ◌/◌, ◌%◌, ◌<◌, Bool, true, false, ltb, ◌≢◌, ◌⊎◌, List, [], ◌∷◌, length, get_or, set, is_some, Some, None, Option, sym, refl, subst, inl, inr, ⊎_elim, arith, length-set, get_or-set_other}
+use Rattle.std.proofs.Common.{◌≡◌, ℕ, zero, suc, ◌+◌, ◌*◌, ◌/◌, ◌%◌, ◌<◌, true, false, ltb, ◌≢◌, ◌⊎◌, List, [], ◌∷◌, length, get_or, set, is_some, Some, None, Option, sym, refl, subst, inl, inr, ⊎_elim, arith, length-set, get_or-set_other}
 use Rattle.std.proofs.lemmas.Bool.Decides.{nat_tests}
 use Rattle.std.proofs.lemmas.Bool.{cases_eq}
 use Rattle.network.specs.Sums.{sum_over}
@@ -12,9 +12,6 @@ use Rattle.calls.specs.Step.{zeroed}
 use Rattle.book.specs.Kept.{Grounded, Low}
 
 module _ {A : Type 0} where
-  taken : List (Option A) → ℕ → Bool
-  taken xs k = is_some (get_or xs k None)
-
   -- what a bound says of each place, it says after one is changed
   pub low_set : (f : Option A → ℕ) (xs : List (Option A)) (p : ℕ) (y : Option A) (b : ℕ) → f y < b → ((k : ℕ) → f (get_or xs k None) < b) → (k : ℕ) → f (get_or (set xs p y) k None) < b
   low_set f [] p y b l h k = h k
@@ -37,9 +34,6 @@ module _ {A : Type 0} where
 
 pub lot_filled : (lots : List (Option Lot)) (xs : List (Option Exposure)) (t : List ℕ) (p : ℕ) (y : Lot) → Grounded lots xs t → Grounded (set lots p (Some y)) xs t
 lot_filled lots xs t p y g q h = let on = g q h in (fill_keeps lots p y (q / 16) on.0, on.1)
-
-pub exposure_filled : (lots : List (Option Lot)) (xs : List (Option Exposure)) (t : List ℕ) (p : ℕ) (y : Exposure) → Grounded lots xs t → Grounded lots (set xs p (Some y)) t
-exposure_filled lots xs t p y g q h = let on = g q h in (on.0, fill_keeps xs p y (q % 16) on.1)
 
 -- a lot without a pledge may go
 unpledged : (n : ℕ) → ltb 0 n ≡ false → n ≡ 0
