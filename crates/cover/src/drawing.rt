@@ -32,7 +32,7 @@ impl Problem {
     }
 
     // The smallest held lot place of each lot's issuer; a place without a lot stands for itself.
-    fn slots(&self) -> [usize; 64]
+    fn slots(&self) -> [usize; LOTS]
         ensures { Slotted (seen self.now) result }
     {
         let mut first = [None; 256];
@@ -60,7 +60,7 @@ impl Problem {
         }
     }
 
-    fn bound_bears(&self, slots: &[usize; 64], pair: Pair) -> u64
+    fn bound_bears(&self, slots: &[usize; LOTS], pair: Pair) -> u64
         requires { Slotted (seen self.now) slots.now }
         ensures { result ≡ cap_of (seen self.now) (bound pair.lot pair.exposure) }
     {
@@ -80,7 +80,7 @@ impl Problem {
     }
 
     // The capacity of the arc `k`.
-    fn bears_at(&self, slots: &[usize; 64], k: usize) -> u64
+    fn bears_at(&self, slots: &[usize; LOTS], k: usize) -> u64
         requires { (Slotted (seen self.now) slots.now) × (k < 2128) }
         ensures { result ≡ cap_of (seen self.now) (arc k) }
     {
@@ -96,7 +96,7 @@ impl Problem {
     }
 
     // The capacity of each arc.
-    fn capacities(&self, slots: &[usize; 64]) -> [u64; 2128]
+    fn capacities(&self, slots: &[usize; LOTS]) -> [u64; ARCS]
         requires { Slotted (seen self.now) slots.now }
         ensures { Capacities (seen self.now) result }
     {
@@ -136,7 +136,7 @@ impl Problem {
 
 // The lots of each slot: `counts[t]` of them have the slot `t`, and stand in the row of 64 places of `t`.
 // Rows with their counts beside them, since memory is fixed and a slot may have 64 lots or none.
-fn rows(slots: &[usize; 64], members: &mut [u8; 4096], counts: &mut [usize; 64])
+fn rows(slots: &[usize; LOTS], members: &mut [u8; 4096], counts: &mut [usize; LOTS])
     requires { (((l : ℕ) → l < 64 → at slots.now l < 64)) × (((t : ℕ) → t < 64 → at counts.old t ≡ 0)) }
     ensures { Rows slots.now members.new counts.new 64 }
 {

@@ -8,16 +8,17 @@ mod lists;
 mod node;
 
 use crate::Problem;
+use crate::pair::{ARCS, LOTS};
 pub use node::Node;
 
 // Each arc's capacity and each lot's slot, with the lots of each slot: `counts[t]` of them in the row of 64 places of `t`.
 #[derive(Drop)]
 pub struct Drawn<'a> {
     pub problem: &'a Problem,
-    pub capacity: [u64; 2128],
-    pub slots: [usize; 64],
+    pub capacity: [u64; ARCS],
+    pub slots: [usize; LOTS],
     pub members: [u8; 4096],
-    pub counts: [usize; 64],
+    pub counts: [usize; LOTS],
     ghost arcs: { length capacity ≡ 2128 },
     ghost lots: { (length slots ≡ 64) × (length members ≡ 4096) × (length counts ≡ 64) },
     ghost capacities: { Capacities (seen problem.now) capacity },

@@ -12,7 +12,7 @@ ghost use Rattle.cover.specs.Picture.{pictured};
 ghost use Rattle.cover.specs.Loading.{Within, Bears, Adds, TooMuch, FlowOf};
 
 use crate::drawn::Drawn;
-use crate::pair::{ARCS, BOUNDS, DEMANDS, LOTS, OFFERS, Pair};
+use crate::pair::{ARCS, BOUNDS, DEMANDS, LOTS, OFFERS, PAIRS, Pair};
 use crate::total::total;
 
 // What the lot of a pair pledges to its exposure.
@@ -26,7 +26,7 @@ struct Pledge {
 #[derive(Drop)]
 struct Loading<'a> {
     drawn: &'a Drawn<'a>,
-    flow: [u64; 2128],
+    flow: [u64; ARCS],
     ghost arcs: { length flow ≡ 2128 },
     ghost within: { Within (pictured drawn.now) flow },
 }
@@ -100,7 +100,7 @@ impl Loading<'_> {
 
 impl Drawn<'_> {
     // The flow of the table, if the table is lawful.
-    fn flow_of(&self, table: &[u64; 1024]) -> Option<[u64; 2128]>
+    fn flow_of(&self, table: &[u64; PAIRS]) -> Option<[u64; ARCS]>
         ensures { FlowOf (pictured self.now) (pledge table.now) result }
     {
         let mut loading = Loading {
@@ -120,21 +120,21 @@ impl Drawn<'_> {
     }
 
     // Whether the table is lawful.
-    pub fn is_lawful(&self, table: &[u64; 1024]) -> bool
+    pub fn is_lawful(&self, table: &[u64; PAIRS]) -> bool
         ensures { Decides result (Lawful (pictured self.now) (pledge table.now)) }
     {
         self.flow_of(table).is_some()
     }
 
     // The flow that the rounds start from: that of the table, or none where the table is not lawful.
-    pub fn start(&self, table: &[u64; 1024]) -> [u64; 2128]
+    pub fn start(&self, table: &[u64; PAIRS]) -> [u64; ARCS]
         ensures { (b : Bool) × Begins (pictured self.now) (pledge table.now) (at result) b }
     {
         self.flow_of(table).unwrap_or([0u64; ARCS])
     }
 
     // What flows in all: what all lots are given.
-    pub fn value(&self, flow: &[u64; 2128]) -> u64
+    pub fn value(&self, flow: &[u64; ARCS]) -> u64
         requires { Flow (net_of (pictured self.now)) (at flow.now) }
         ensures { result ≡ sum_over 64 (at flow.now) }
     {
@@ -143,7 +143,7 @@ impl Drawn<'_> {
 }
 
 // Makes `table` the table of the flow.
-pub fn store(flow: &[u64; 2128], table: &mut [u64; 1024])
+pub fn store(flow: &[u64; ARCS], table: &mut [u64; PAIRS])
     ensures { SameTable (table_of (at flow.now)) (pledge table.new) }
 {
     table.copy_from_slice(&flow[OFFERS..BOUNDS]);

@@ -8,7 +8,7 @@ ghost use Rattle.cover.specs.Answer.{noted};
 ghost use Rattle.cover.specs.Marked.{marked};
 
 use crate::drawn::Drawn;
-use crate::pair::{EXPOSURE_NODES, EXPOSURES, LOT_NODES, LOTS, Pair};
+use crate::pair::{EXPOSURE_NODES, EXPOSURES, LOT_NODES, LOTS, NODES, Pair};
 use crate::record::Record;
 use words::pack;
 
@@ -16,7 +16,7 @@ use words::pack;
 #[derive(Clone, Copy)]
 pub struct Reached<'a> {
     pub drawn: &'a Drawn<'a>,
-    pub mark: &'a [u32; 1106],
+    pub mark: &'a [u32; NODES],
 }
 
 // The word whose bit `p` is the answer at the place `p`.
@@ -73,7 +73,7 @@ impl Reached<'_> {
     }
 
     // Those at each exposure.
-    fn issuer_words(&self) -> [u64; 16]
+    fn issuer_words(&self) -> [u64; EXPOSURES]
         ensures { (e : ℕ) → e < 16 → (t : ℕ) → t < 64 → bit (at result e) t ≡ (marked self.now).issuers e t }
     {
         let mut words = [0u64; EXPOSURES];

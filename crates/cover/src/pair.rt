@@ -9,6 +9,8 @@ pub const LOTS: usize = 64;
 
 pub const EXPOSURES: usize = 16;
 
+pub const PAIRS: usize = 1024;
+
 // Where the arcs of each kind begin: first the supplies of the lots, then the offers and the bounds of the pairs, then the demands of
 // the exposures.
 pub const OFFERS: usize = 64;

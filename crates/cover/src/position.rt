@@ -7,11 +7,12 @@ ghost use Rattle.cover.specs.Loading.{Within, Conserved};
 mod net;
 
 use crate::drawn::Drawn;
+use crate::pair::ARCS;
 
 #[derive(Drop)]
 pub struct Position<'a> {
     pub drawn: &'a Drawn<'a>,
-    pub first: [u64; 2128],
+    pub first: [u64; ARCS],
     ghost arcs: { length first ≡ 2128 },
     ghost within: { Within (pictured drawn.now) first },
     ghost conserved: { Conserved (pictured drawn.now) first },
