@@ -55,20 +55,16 @@ told (allocated k r) = Ok (grant.Allocated k)
 told (settled n list) = Ok (grant.Settled n)
 told abandoned = Ok grant.Abandoned
 
--- how many instructions an order that was granted wrote
-abbrev pub written : Granted → ℕ
-written (grant.Added v) = 0
-written grant.Withdrawn = 0
-written grant.Opened = 0
-written (grant.Closed n) = n
-written (grant.Began n) = 0
-written (grant.Allocated k) = 0
-written (grant.Settled n) = n
-written grant.Abandoned = 0
-
 -- how many instructions an outcome tells of
 abbrev pub count_of : Outcome → ℕ
-count_of (Ok g) = written g
+count_of (Ok (grant.Added v)) = 0
+count_of (Ok grant.Withdrawn) = 0
+count_of (Ok grant.Opened) = 0
+count_of (Ok (grant.Closed n)) = n
+count_of (Ok (grant.Began n)) = 0
+count_of (Ok (grant.Allocated k)) = 0
+count_of (Ok (grant.Settled n)) = n
+count_of (Ok grant.Abandoned) = 0
 count_of (Err e) = 0
 
 -- an order is carried out: its call is made, or there is none to make and nothing happens
