@@ -21,7 +21,8 @@ impl<G: Network> Residual<'_, '_, G> {
         mark[self.network.target(v, j)]
     }
 
-    // The place of the first arc of `v`, from the place `i` on, that has room and goes a layer on, or the number of its arcs.
+    // The place of the first arc of `v`, from the place `i` on, that has room and goes a layer on, or the number of its arcs,
+    // where the cursor of a node that is given up stands.
     fn first_open(&self, mark: &[u32], v: usize, i: usize) -> usize
         requires marks { ((G.net self.now.network.now).nodes ≤ length mark.now) × (at mark.now v ≤ (G.net self.now.network.now).nodes) }
         requires node { (v < (G.net self.now.network.now).nodes) × (i ≤ G.deg self.now.network.now v) }
@@ -53,6 +54,7 @@ impl<G: Network> Residual<'_, '_, G> {
         let path = &mut *memory.path;
         let t = self.network.sink();
         let mut v = stack[d] as usize;
+        // A search in depth goes on and back: its steps are items of no list.
         while v != t {
             let i = self.first_open(mark, v, cursor[v] as usize);
             cursor[v] = i as u32;

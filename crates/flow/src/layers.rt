@@ -44,6 +44,7 @@ impl<G: Network> Residual<'_, '_, G> {
         memory.mark.fill(0);
         memory.mark[s] = 1;
         memory.queue[0] = s as u32;
+        // The queue grows while it is read, so no iterator can go over it.
         let mut done = 0;
         let mut count = 1;
         while done < count && memory.mark[t] == 0 {

@@ -3,7 +3,8 @@
 /// Four lists of numbers, each with a place for each node at least.
 #[derive(Debug, Drop)]
 pub struct Memory<'a> {
-    /// At the end above 0 at the nodes that are still reached.
+    /// At the end above 0 at the nodes that are still reached. The words are the caller's, so 0 stands for
+    /// no mark.
     pub mark: &'a mut [u32],
     /// The nodes by their layers, and then those on the path of the search in depth.
     pub queue: &'a mut [u32],

@@ -47,6 +47,7 @@ fn run<G: Network>(network: &G, flow: &mut [u64], memory: &mut Memory) -> usize
 {
     let t = network.sink();
     Residual { network, flow }.layers(memory);
+    // How many rounds there will be is not known before, so no range can count them.
     let mut rounds = 0;
     while memory.reached(t) {
         block(network, flow, memory);

@@ -20,6 +20,7 @@ pub const MAX_ARCS: usize = 4096;
 pub const MAX_ENDS: usize = 2 * MAX_ARCS;
 
 /// A list of arcs, to which more are added. `ends[2k]` is the head of the arc k, and `ends[2k + 1]` its tail. The capacities add up to `total`.
+// No heap: the arrays are fixed. They are two, and no array of arcs, so that one step reads the node that a residual arc enters, either way.
 #[derive(Drop)]
 pub struct ArcList {
     pub nodes: usize,
