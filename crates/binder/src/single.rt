@@ -32,7 +32,7 @@ pub struct Single<C> {
 
 impl<C> Single<C> {
     // A schedule of the criteria and the share.
-    pub fn new(criteria: C, share: Share) -> Single<C>
+    pub(crate) fn new(criteria: C, share: Share) -> Single<C>
         ensures { result ≡ record { criteria = criteria; share = share } }
     {
         Single { criteria, share }

@@ -7,6 +7,13 @@ use cause::Cause;
 // How many numbers a binder has at most.
 const NUMBERS: u64 = 16;
 
+// Which of a pair's two binders.
+#[derive(Clone, Copy, PartialEq, Eq, Debug)]
+pub enum Side {
+    First,
+    Second,
+}
+
 #[derive(Clone, Copy, PartialEq, Eq, Debug)]
 pub struct Switch {
     at: u64,
@@ -14,7 +21,7 @@ pub struct Switch {
 }
 
 impl Switch {
-    ghost use Rattle.binder.specs.Switch.{Setting, Asked};
+    ghost use Rattle.binder.specs.Switch.{Setting, Routed, Asked};
 
     // At 16: every number is the first binder's.
     pub fn new() -> Switch
@@ -34,8 +41,21 @@ impl Switch {
         Ok(())
     }
 
-    // Asks the binder that a number belongs to, by the number that it has there. A number of 16 or
-    // more belongs to none.
+    // The binder that a number of a pair belongs to, and the number that it has there. A number of 16
+    // or more belongs to none.
+    pub fn route(&self, number: u64) -> Option<(Side, u64)>
+        ensures { Routed self.now.at number result }
+    {
+        if number < self.at {
+            Some((Side::First, number))
+        } else if number < NUMBERS {
+            Some((Side::Second, number - self.at))
+        } else {
+            None
+        }
+    }
+
+    // What the binder answers that the number belongs to.
     pub fn ask<A, F: FnOnce(u64) -> A, G: FnOnce(u64) -> A>(
         &self,
         number: u64,
@@ -46,12 +66,9 @@ impl Switch {
         requires second { self.now.at ≤ number → number < 16 → G.pre second (number - self.now.at) }
         ensures { Asked self.now.at number (F.post first) (G.post second) result }
     {
-        if number < self.at {
-            Some(first(number))
-        } else if number < NUMBERS {
-            Some(second(number - self.at))
-        } else {
-            None
+        match self.route(number)? {
+            (Side::First, n) => Some(first(n)),
+            (Side::Second, n) => Some(second(n)),
         }
     }
 }

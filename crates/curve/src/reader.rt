@@ -7,7 +7,7 @@ ghost use Rattle.curve.specs.Page.{Spelt};
 #[derive(Clone, Copy, PartialEq, Eq, Debug)]
 pub struct Ended;
 
-#[derive(Drop)]
+#[derive(PartialEq, Eq, Debug, Drop)]
 pub struct Reader<'a> {
     bytes: &'a [u8],
     at: usize,

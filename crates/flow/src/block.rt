@@ -30,6 +30,7 @@ impl<G: Network> Residual<'_, '_, G> {
     {
         let layer = mark[v] + 1;
         let end = self.network.degree(v);
+        // No `find`: its test may be asked of any number, and this one only of those below the degree.
         for j in i..end {
             if self.mark_ahead(mark, v, j) == layer && self.has_room(self.network.leaving(v, j)) {
                 return j;

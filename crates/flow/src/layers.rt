@@ -21,6 +21,7 @@ impl<G: Network> Residual<'_, '_, G> {
         let queue = &mut *memory.queue;
         let v = queue[done] as usize;
         let layer = mark[v] + 1;
+        // A network gives its arcs by number; the queue is lent, so how many stand in it is counted beside it.
         for i in 0..self.network.degree(v) {
             let w = self.network.target(v, i);
             if mark[w] == 0 && self.has_room(self.network.leaving(v, i)) {

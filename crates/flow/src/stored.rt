@@ -38,6 +38,7 @@ pub struct ArcList {
 }
 
 /// The network of a list of arcs, with the residual arcs that leave a node v side by side: `degree[v]` of them from `rows[start[v]]` on.
+// No heap: the arrays are fixed. Degrees and starts are two, and no array of pairs, since a question reads one of them.
 #[derive(Drop)]
 pub struct StoredNetwork {
     pub list: ArcList,

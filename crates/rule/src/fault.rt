@@ -11,6 +11,7 @@ pub struct TextFault {
 }
 
 impl TextFault {
+    // A test that is taken by `?`, so that the faults of one mark stand one under the other.
     pub(crate) fn refuse_if(wrong: bool, cause: Cause, place: usize) -> Result<(), TextFault>
         ensures { result ≡ cond wrong (fault cause place) (Ok tt) }
     {

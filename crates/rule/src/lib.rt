@@ -2,7 +2,7 @@
 //
 //     bytes -> marks -> reader -> steps -> answer
 //
-// The lexer names each byte, the reader refuses the first mark that does not fit and writes the rule
+// Each byte becomes a mark, the reader refuses the first mark that does not fit and writes the rule
 // down as at most 64 steps in postfix order, and a rule that is asked runs them. Reading takes time
 // in proportion to the text, asking in proportion to the steps; nothing is allocated.
 #![tactic(auto)]

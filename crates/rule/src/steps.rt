@@ -58,6 +58,17 @@ impl Answers {
         self.bits /= 2;
         answer
     }
+
+    // The last two answers, in the order in which they were given.
+    fn pop_two(&mut self) -> (bool, bool)
+        ensures last { result.1 ≡ top self.old }
+        ensures before { result.0 ≡ top (self.old / 2) }
+        ensures others { self.new ≡ self.old / 2 / 2 }
+    {
+        let last = self.pop();
+        let before = self.pop();
+        (before, last)
+    }
 }
 
 // `Field` and `Sign` are of the crate grammar, so these two can't be methods of theirs, and a trait of
@@ -97,13 +108,11 @@ impl Step {
                 answers.push(!last);
             }
             Step::Both => {
-                let last = answers.pop();
-                let before = answers.pop();
+                let (before, last) = answers.pop_two();
                 answers.push(before && last);
             }
             Step::Either => {
-                let last = answers.pop();
-                let before = answers.pop();
+                let (before, last) = answers.pop_two();
                 answers.push(before || last);
             }
         }

@@ -11,10 +11,10 @@ enum Kind {
     Plain,
 }
 
-impl Kind {
-    fn of(byte: u8) -> Kind
-        ensures { result ≡ kind byte }
-    {
+impl From<u8> for Kind {
+    ghost from_gives = { λ byte found. found ≡ kind byte };
+
+    fn from(byte: u8) -> Kind {
         match byte {
             b' ' | b'\t' | b'\r' => Kind::Blank,
             b'#' => Kind::Mark,
@@ -32,7 +32,7 @@ fn run(bytes: &[u8], of: Kind) -> usize
 {
     bytes
         .iter()
-        .position(|b| Kind::of(*b) != of)
+        .position(|b| Kind::from(*b) != of)
         .unwrap_or(bytes.len())
 }
 

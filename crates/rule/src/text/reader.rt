@@ -152,7 +152,7 @@ impl Reader {
                 self.follow(follow);
             }
             (Mode::Done, Mark::Follow(follow)) => self.follow(follow),
-            _ => unreachable(),
+            _ => unreachable!(),
         }
     }
 

@@ -6,7 +6,7 @@ use Rattle.flow.proofs.Running.{running_none, running_marks, running_few, runnin
 use Rattle.flow.proofs.rounds.run.Goals as goal
 
 pub loop-flow-init : goal.loop-flow-init
-loop-flow-init g c = (record { fits = c.layers.ensures.kept.fits; same = record { mark = refl; queue = refl; cursor = refl; path = refl } }, running_none c.requires.1.1.1.0 c.requires.1.1.1.1 c.layers.ensures.searched)
+loop-flow-init g c = (record { fits = c.layers.ensures.kept.fits; same = record { mark = refl; queue = refl; cursor = refl; path = refl; mark_size = refl; queue_size = refl; cursor_size = refl; path_size = refl } }, running_none c.requires.1.1.1.0 c.requires.1.1.1.1 c.layers.ensures.searched)
 
 pub block-requires-clause-marks : goal.block-requires-clause-marks
 block-requires-clause-marks g c = running_marks (g.met.G.Network.lawful c.args.network.now).sound c.loop-flow.invariant.1

@@ -16,7 +16,16 @@ loop-done-init g c =
           cursor = c.requires.cursor;
           path = c.requires.path;
         };
-        same = record { mark = refl; queue = refl; cursor = refl; path = refl };
+        same = record {
+          mark = refl;
+          queue = refl;
+          cursor = refl;
+          path = refl;
+          mark_size = omega (arith, c.fill.ensures.len, length-set c.fill.new.self c.source-s.result 1);
+          queue_size = omega (arith, length-set c.args.memory.now.queue.now 0 c.source-s.result);
+          cursor_size = refl;
+          path_size = refl;
+        };
       },
       bfs_start _ _ _ _ _ L.sound (λ v h. zeros _ _ (c.fill.ensures.after (λ y e. e)) v)
           (put_at c.fill.new.self c.source-s.result 1 _ e (omega (arith, L.sound.source_in, c.requires.mark, c.fill.ensures.len)))
