@@ -8,9 +8,12 @@ use Rattle.calls.specs.Situation.{admits_of, limit_of}
 use Rattle.cover.specs.declared.problem.Lot.{Lot as Held}
 use Rattle.cover.specs.declared.problem.Terms.{Terms}
 
--- what an allocation is told of a lot
+-- what an allocation is told of a lot, and of an exposure
 abbrev pub held_as : Lot → Held
 held_as l = record { issuer = l.issuer; worth = l.worth }
+
+abbrev pub amount : Exposure → ℕ
+amount x = x.amount
 
 -- an exposure's limit for a lot's issuer
 abbrev pub limit_for : Meaning → Option Lot → Option Exposure → ℕ

@@ -7,7 +7,7 @@ ghost use Rattle.cover.specs.Seen.{seen};
 ghost use Rattle.calls.specs.State.{lot_at, exposure_at};
 ghost use Rattle.calls.specs.Situation.{description, amount_of, situation_of};
 ghost use Rattle.book.specs.Kept.{Worths, Amounts};
-ghost use Rattle.book.specs.Asked.{held_as, terms_for};
+ghost use Rattle.book.specs.Asked.{held_as, amount, terms_for};
 
 use binder::Binder;
 use calls::Exposure;
@@ -43,6 +43,13 @@ fn held(lot: Lot) -> cover::Lot
         issuer: lot.issuer,
         worth: lot.worth,
     }
+}
+
+// What an allocation is told of an exposure.
+fn owed(exposure: Exposure) -> u64
+    ensures { result ≡ amount exposure }
+{
+    exposure.amount
 }
 
 // Whether the exposure's schedule admits the lot, and the exposure's limit for the lot's issuer; nothing where either is missing.
@@ -95,7 +102,7 @@ pub fn problem<B: Binder>(
 {
     Problem {
         lots: lots.map(|lot| lot.map(held)),
-        exposures: exposures.map(|exposure| exposure.map(|x| x.amount)),
+        exposures: exposures.map(|exposure| exposure.map(owed)),
         terms: all_terms(binder, lots, exposures),
     }
 }

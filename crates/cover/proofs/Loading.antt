@@ -1,42 +1,19 @@
 -- A table is lawful exactly if its pledges can be sent along their paths one after the other, no arc carrying more than it can.
 -- The flow is then the sum of the paths. Where an arc cannot carry a pledge, it could not carry the whole table's either.
 
-use Rattle.std.proofs.Common.{◌≡◌, ℕ, ◌+◌, ◌*◌, ◌/◌, ◌%◌, ◌<◌, ◌≤◌, Bool, true, false, eqb, leb, List, Option, Some, None, unwrap_or, replicate, sym, refl, ap, ◌∙◌, arith}
-use Rattle.std.proofs.lemmas.Bool.{false≢true, leb-false}
+use Rattle.std.proofs.Common.{◌≡◌, ℕ, ◌+◌, ◌*◌, ◌/◌, ◌%◌, ◌<◌, ◌≤◌, Bool, true, false, eqb, List, Some, sym, refl, ap, ◌∙◌, arith}
 use Rattle.network.specs.Sums.{when}
-use Rattle.network.proofs.Sums.{sum_start, sum_more, sum_same, hit}
-use Rattle.table.specs.Table.{Situation, Table, Lawful}
-use Rattle.table.specs.Outcome.{Begins}
-use Rattle.table.proofs.Slots.{slot_low}
-use Rattle.table.specs.Drawn.{place, arc, slot, cap_of, flow_of}
+use Rattle.network.proofs.Sums.{sum_start, sum_more, sum_same}
+use Rattle.table.specs.Table.{Situation, Lawful}
+use Rattle.table.specs.Drawn.{place, slot, flow_of}
 use Rattle.table.specs.Drawn.Arc.{supply, offer, bound, demand}
 use Rattle.table.specs.Paths.{share}
 use Rattle.table.proofs.Sums.{sum_front}
 use Rattle.table.proofs.Paths.{paths_by_place}
 use Rattle.table.proofs.Tables.{lawful_within_lem, within_lawful}
 use Rattle.cover.specs.View.{at, pledge}
-use Rattle.cover.specs.Lists.{zeros_at}
 use Rattle.cover.specs.declared.load.Pledge.{Pledge}
 use Rattle.cover.specs.Loading.{Within, Adds, TooMuch, FlowOf, along, front}
-
-module _ (s : Situation) (p : Pledge) (flow : List ℕ) where
-  -- an arc on the path that cannot carry the pledge
-  over : (k : ℕ) → k < 2128 → p.amount ≤ along s p k → leb (at flow k + p.amount) (cap_of s (arc k)) ≡ false → TooMuch s p flow
-  over k h a f = (k, h, omega (arith, a, leb-false _ _ f))
-
-  pub over_supply : leb (at flow (place (supply p.pair.lot)) + p.amount) (cap_of s (arc (place (supply p.pair.lot)))) ≡ false → TooMuch s p flow
-  over_supply = over (place (supply p.pair.lot)) (omega (arith, p.pair.low.0)) (omega (arith, hit (place (supply p.pair.lot)) (place (supply p.pair.lot)) p.amount refl))
-
-  pub over_offer : leb (at flow (place (offer p.pair.lot p.pair.exposure)) + p.amount) (cap_of s (arc (place (offer p.pair.lot p.pair.exposure)))) ≡ false → TooMuch s p flow
-  over_offer = over (place (offer p.pair.lot p.pair.exposure)) (omega (arith, p.pair.low.0, p.pair.low.1)) (omega (arith, hit (place (offer p.pair.lot p.pair.exposure)) (place (offer p.pair.lot p.pair.exposure)) p.amount refl))
-
-  pub over_bound : leb (at flow (place (bound (slot s p.pair.lot) p.pair.exposure)) + p.amount) (cap_of s (arc (place (bound (slot s p.pair.lot) p.pair.exposure)))) ≡ false → TooMuch s p flow
-  over_bound = over (place (bound (slot s p.pair.lot) p.pair.exposure)) (omega (arith, p.pair.low.1, slot_low s p.pair.lot p.pair.low.0)) (omega (arith, hit (place (bound (slot s p.pair.lot) p.pair.exposure)) (place (bound (slot s p.pair.lot) p.pair.exposure)) p.amount refl))
-
--- the flow to begin with, from that of a table or from nothing
-pub begins_at : (s : Situation) (p : Table) (r : Option (List ℕ)) → FlowOf s p r → (b : Bool) × Begins s p (at (unwrap_or r (replicate 2128 0))) b
-begins_at s p None f = (false, record { test = (λ y. absurd (false≢true y), λ w. absurd (f w)); loaded = λ y. absurd (false≢true y); blank = λ _ k h. zeros_at 2128 k })
-begins_at s p (Some flow) f = (true, record { test = (λ _. f.0, λ _. refl); loaded = λ _. f.1; blank = λ y. absurd (false≢true (sym y)) })
 
 module _ (s : Situation) (table : List ℕ) where
   front_more : (n k : ℕ) → front s table (n + 1) k ≡ front s table n k + share s (n / 16) (n % 16) (at table n) k

@@ -1,6 +1,6 @@
 // From a table to its flow, and back.
 
-ghost use Rattle.std.specs.Prelude.{◌≡◌, ℕ, ◌+◌, ◌<◌, ◌≤◌, Bool, true, false, Decides, MatchOption, ◌==◌, nat_le, length};
+ghost use Rattle.std.specs.Prelude.{◌≡◌, ℕ, ◌+◌, ◌<◌, ◌≤◌, Bool, true, false, Decides, MatchOption, ◌==◌, nat_le, length, take};
 ghost use Rattle.network.specs.Sums.{sum_over, when};
 ghost use Rattle.network.specs.Flow.{Flow};
 ghost use Rattle.table.specs.Table.{Lawful, SameTable};
@@ -64,10 +64,17 @@ impl Loading<'_> {
     {
         let pair = pledge.pair;
         let x = pledge.amount;
-        self.fits(pair.lot, x)
-            && self.fits(pair.offer(), x)
-            && self.fits(self.bound_of(pair), x)
-            && self.fits(DEMANDS + pair.exposure, x)
+        // Not one chain of `&&`: there each refusal has to be proved by hand.
+        if !self.fits(pair.lot, x) {
+            return false;
+        }
+        if !self.fits(pair.offer(), x) {
+            return false;
+        }
+        if !self.fits(self.bound_of(pair), x) {
+            return false;
+        }
+        self.fits(DEMANDS + pair.exposure, x)
     }
 
     // Sends a pledge along its path.
@@ -130,7 +137,11 @@ impl Drawn<'_> {
     pub fn start(&self, table: &[u64; PAIRS]) -> [u64; ARCS]
         ensures { (b : Bool) × Begins (pictured self.now) (pledge table.now) (at result) b }
     {
-        self.flow_of(table).unwrap_or([0u64; ARCS])
+        // Not `unwrap_or`: what begins is proved for each case alone.
+        match self.flow_of(table) {
+            Some(flow) => flow,
+            None => [0u64; ARCS],
+        }
     }
 
     // What flows in all: what all lots are given.
@@ -138,13 +149,28 @@ impl Drawn<'_> {
         requires { Flow (net_of (pictured self.now)) (at flow.now) }
         ensures { result ≡ sum_over 64 (at flow.now) }
     {
-        total(&flow[..LOTS])
+        total(supplies(flow))
     }
+}
+
+// What flows along the arcs of the lots.
+fn supplies(flow: &[u64; ARCS]) -> &[u64]
+    ensures { result.now ≡ take 64 flow.now }
+{
+    &flow[..LOTS]
+}
+
+// What flows along the arcs from lots to cells, which is what is pledged.
+fn offers(flow: &[u64; ARCS]) -> &[u64]
+    ensures long { length result.now ≡ 1024 }
+    ensures each { (k : ℕ) → k < 1024 → at result.now k ≡ at flow.now (64 + k) }
+{
+    &flow[OFFERS..BOUNDS]
 }
 
 // Makes `table` the table of the flow.
 pub fn store(flow: &[u64; ARCS], table: &mut [u64; PAIRS])
     ensures { SameTable (table_of (at flow.now)) (pledge table.new) }
 {
-    table.copy_from_slice(&flow[OFFERS..BOUNDS]);
+    table.copy_from_slice(offers(flow));
 }

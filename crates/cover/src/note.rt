@@ -64,6 +64,20 @@ impl Reached<'_> {
         self.exposure_marked(exposure) && leads && self.mark[cell] > 0
     }
 
+    // The marked exposures.
+    fn exposure_word(&self) -> u16
+        ensures { (e : ℕ) → e < 16 → bit result e ≡ (marked self.now).exposures e }
+    {
+        word::<EXPOSURES, _>(|e| self.exposure_marked(e)) as u16
+    }
+
+    // The marked lots.
+    fn lot_word(&self) -> u64
+        ensures { (l : ℕ) → l < 64 → bit result l ≡ (marked self.now).lots l }
+    {
+        word::<LOTS, _>(|l| self.lot_marked(l))
+    }
+
     // The marked issuers at an exposure.
     fn issuer_word(&self, exposure: usize) -> u64
         requires { exposure < 16 }
@@ -88,8 +102,8 @@ impl Reached<'_> {
         ensures { SameMarks (noted result) (marked self.now) }
     {
         Record {
-            exposures: word::<EXPOSURES, _>(|e| self.exposure_marked(e)) as u16,
-            lots: word::<LOTS, _>(|l| self.lot_marked(l)),
+            exposures: self.exposure_word(),
+            lots: self.lot_word(),
             issuers: self.issuer_words(),
         }
     }
