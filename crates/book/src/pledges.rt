@@ -1,4 +1,4 @@
-// Walks over pledge tables and places.
+// What is asked of pledge tables, and what is written from them.
 
 ghost use Rattle.std.specs.Prelude.{◌≡◌, ℕ, ◌+◌, ◌^◌, ◌<◌, ◌≤◌, length, if◌then◌else◌, ◌≢◌, nat_eq, nat_lt, slice_set, is_some, slice_index, slice_index_or, None};
 ghost use Rattle.network.specs.Sums.{sum_over};
@@ -31,6 +31,7 @@ pub fn is_pledged(pledges: &[u64; PAIRS], lot: Place<LOTS>) -> bool
 pub fn zero_column(pledges: &mut [u64; PAIRS], exposure: Place<EXPOSURES>)
     ensures { pledges.new ≡ zeroed pledges.old exposure.at 64 }
 {
+    // By places, since nothing is known of what was written through `chunks_exact_mut`.
     for place in (exposure.at..PAIRS).step_by(EXPOSURES) {
         pledges[place] = 0;
     }

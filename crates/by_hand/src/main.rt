@@ -12,7 +12,7 @@ fn one_run(book: &mut Book) -> Result<u32, Cause> {
     let run = slip.run();
     match book.abandon(slip) {
         Ok(()) => Ok(run),
-        Err((_cause, _slip)) => unreachable(),
+        Err((_cause, _slip)) => unreachable!(),
     }
 }
 

@@ -43,7 +43,7 @@ fn solve(position: &Position, flow: &mut [u64; ARCS], mark: &mut [u32; NODES]) -
     };
     match maximize(position, flow, &mut memory) {
         Ok(rounds) => rounds,
-        Err(_) => unreachable(),
+        Err(_) => unreachable!(),
     }
 }
 

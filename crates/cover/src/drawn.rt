@@ -11,7 +11,8 @@ use crate::Problem;
 use crate::pair::{ARCS, LOTS};
 pub use node::Node;
 
-// Each arc's capacity and each lot's slot, with the lots of each slot: `counts[t]` of them in the row of 64 places of `t`.
+// Each arc's capacity and each lot's slot, with the lots of each slot: `counts[t]` of them in the row of 64 places of `t`. No heap: a row
+// has room for every lot, and its count stands apart, since the lists of a search ask for the counts alone.
 #[derive(Drop)]
 pub struct Drawn<'a> {
     pub problem: &'a Problem,

@@ -26,7 +26,7 @@ fn word<const N: usize, F: Fn(usize) -> bool>(marked: F) -> u64
     ensures bits { (p : ℕ) → p < N → F.post marked p (bit result p) }
     ensures low { result < 2 ^ N }
 {
-    // A loop, as in drawing.rt.
+    // No `array::from_fn`: it was tried, and no proof found that its closure keeps what it borrows.
     let mut flags = [false; N];
     for (p, flag) in flags.iter_mut().enumerate() {
         *flag = marked(p);

@@ -13,6 +13,7 @@ fn climb(out: &mut Vec<u64>, from: Point, to: Point) -> Result<(), AllocError> {
     let mut stepped: u64 = 0;
     for _ in 0..width {
         line = line.saturating_add(rise);
+        // Bounded by the rise, so that it ends.
         for _ in 0..rise {
             if stepped >= line {
                 break;

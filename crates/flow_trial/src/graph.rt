@@ -19,7 +19,7 @@ pub struct Graph {
     pub arcs: Vec<Arc>,
 }
 
-/// Numbers from a seed.
+/// Numbers from a seed. Of this trial alone: the networks that are tried, and the counts printed, are those of its sequence.
 #[derive(Clone, Copy, PartialEq, Eq, Debug, Drop)]
 pub struct Random {
     state: u64,

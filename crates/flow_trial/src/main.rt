@@ -42,14 +42,14 @@ fn known(rt: HostRuntime, line: &str) -> anyhow::Result<bool> {
 
 // How many networks were tried, on how many the answers agree, and the rounds that they took.
 #[derive(Clone, Copy, PartialEq, Eq, Debug, Default, Drop)]
-struct Tally {
+struct Agreement {
     networks: u64,
     agree: u64,
     rounds: u64,
     most: u64,
 }
 
-impl Tally {
+impl Agreement {
     fn count(&mut self, agrees: bool, rounds: u64) {
         self.networks = self.networks.saturating_add(1);
         self.agree = self.agree.saturating_add(u64::from(agrees));
@@ -83,11 +83,11 @@ fn against<S: Fn(&mut Random) -> Sizes, M: Fn(&Graph) -> u64>(
     networks: u32,
     sizes: S,
     method: M,
-) -> anyhow::Result<Tally>
+) -> anyhow::Result<Agreement>
     requires sizes { S.IsAlwaysCallable sizes }
     requires method { M.IsAlwaysCallable method }
 {
-    let mut tally = Tally::default();
+    let mut tally = Agreement::default();
     for _ in 0..networks {
         let drawn = sizes(random);
         let graph = make(heap, random, drawn)?;
@@ -102,8 +102,8 @@ fn against<S: Fn(&mut Random) -> Sizes, M: Fn(&Graph) -> u64>(
     Ok(tally)
 }
 
-fn report(rt: HostRuntime, method: &str, tally: Tally) -> anyhow::Result<()> {
-    let Tally {
+fn report(rt: HostRuntime, method: &str, tally: Agreement) -> anyhow::Result<()> {
+    let Agreement {
         networks,
         agree,
         rounds,
@@ -117,7 +117,7 @@ fn report(rt: HostRuntime, method: &str, tally: Tally) -> anyhow::Result<()> {
 
 fn main(rt: HostRuntime) -> anyhow::Result<()> {
     let heap = rt.alloc();
-    let mut tally = Tally::default();
+    let mut tally = Agreement::default();
     for line in rt.lines(heap) {
         tally.count(known(rt, line?.as_str())?, 0);
     }

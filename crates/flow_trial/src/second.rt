@@ -13,17 +13,24 @@ fn has(set: u32, v: usize) -> bool {
     v < 32 && (set >> v) & 1 == 1
 }
 
-fn capacity_of(arcs: &[Arc], set: u32) -> u64 {
-    arcs.iter()
-        .filter(|arc| has(set, arc.tail) && !has(set, arc.head))
-        .fold(0u64, |sum, arc| sum.saturating_add(arc.capacity))
+/// What the arcs that lead out of a set of nodes can carry.
+pub fn capacity_of<I: Fn(usize) -> bool>(inside: I, arcs: &[Arc]) -> u64
+    requires { I.IsAlwaysCallable inside }
+{
+    let mut sum = 0u64;
+    for arc in arcs {
+        if inside(arc.tail) && !inside(arc.head) {
+            sum = sum.saturating_add(arc.capacity);
+        }
+    }
+    sum
 }
 
 /// The least capacity of all cuts of a network of few nodes.
 pub fn least_cut(graph: &Graph) -> u64 {
     (0..1u32 << FEW)
         .filter(|&set| has(set, graph.source) && !has(set, graph.sink))
-        .map(|set| capacity_of(&graph.arcs, set))
+        .map(|set| capacity_of(|v| has(set, v), &graph.arcs))
         .min()
         .unwrap_or(u64::MAX)
 }
@@ -71,6 +78,7 @@ fn along<F: FnMut(usize, usize)>(parent: &Parents, source: usize, sink: usize, m
     requires { (state : F) (u v : ℕ) → u < SIZE → v < SIZE → F.pre state u v }
 {
     let mut v = sink;
+    // Bounded by the nodes, so that it ends.
     for _ in 0..SIZE {
         if v >= SIZE || v == source {
             break;
@@ -90,6 +98,7 @@ fn along<F: FnMut(usize, usize)>(parent: &Parents, source: usize, sink: usize, m
 pub fn by_paths(graph: &Graph) -> u64 {
     let mut matrix = matrix_of(&graph.arcs);
     let mut value = 0u64;
+    // Bounded, so that it ends: no network here takes so many paths.
     for _ in 0..100_000 {
         let parent = parents(&matrix, graph.source);
         if graph.sink >= SIZE || parent[graph.sink].is_none() {

@@ -1,6 +1,7 @@
 //! The library's answer, and whether it holds together.
 
 use crate::graph::{Arc, Graph};
+use crate::second::capacity_of;
 use flow::{
     ArcList, MAX_NODES, Memory, StoredNetwork, Unfit, maximize, maximize_from_zero, reached,
 };
@@ -52,13 +53,6 @@ fn conserved(graph: &Graph, flow: &[u64]) -> bool {
         .all(|v| leaving(graph, flow, v) == entering(graph, flow, v))
 }
 
-// What the arcs out of the nodes that are reached can carry.
-fn cut(arcs: &[Arc], mark: &[u32]) -> u64 {
-    arcs.iter()
-        .filter(|arc| reached(mark, arc.tail) && !reached(mark, arc.head))
-        .fold(0u64, |sum, arc| sum.saturating_add(arc.capacity))
-}
-
 fn examine(graph: &Graph, network: &StoredNetwork, flow: &mut [u64]) -> Option<Answer> {
     let mut mark = [0u32; MAX_NODES];
     let mut queue = [0u32; MAX_NODES];
@@ -79,7 +73,7 @@ fn examine(graph: &Graph, network: &StoredNetwork, flow: &mut [u64]) -> Option<A
     ));
     let meets = reached(&mark, graph.source)
         && !reached(&mark, graph.sink)
-        && cut(&graph.arcs, &mark) == value;
+        && capacity_of(|v| reached(&mark, v), &graph.arcs) == value;
     let sound = rounds == first
         && rounds < graph.nodes
         && within(&graph.arcs, flow)

@@ -1,4 +1,4 @@
-// A book at work: orders are carried out one after the other on one book under one binder, and the
+// A book and the orders that it is given: they are carried out one after the other on one book under one binder, and the
 // law over all lives of a book holds of every session.
 #![tactic(auto)]
 

@@ -6,7 +6,7 @@ use cause::Cause;
 use cover::Record;
 use curve::lot::Terms;
 
-#[derive(Clone, Copy)]
+#[derive(Clone, Copy, PartialEq, Eq, Debug)]
 pub enum Order {
     Add(u64, Terms),
     Withdraw(u64),
@@ -37,7 +37,7 @@ pub enum Granted {
 }
 
 // Why it did nothing.
-#[derive(Clone, Copy)]
+#[derive(Clone, Copy, PartialEq, Eq, Debug)]
 pub enum Refused {
     For(Cause),
     // the shortage, and the record that explains it

@@ -14,11 +14,12 @@ const MOST_STEPS: usize = 64;
 
 const FUEL: u32 = 4 * 1024;
 
-fn holds(value: u64, sign: u8, number: u64) -> Option<bool> {
+// A sign is a byte here, and a field a letter: the second method shares no type with the first.
+fn holds(value: u64, sign: Option<u8>, number: u64) -> Option<bool> {
     match sign {
-        b'=' => Some(value == number),
-        b'<' => Some(value < number),
-        b'>' => Some(value > number),
+        Some(b'=') => Some(value == number),
+        Some(b'<') => Some(value < number),
+        Some(b'>') => Some(value > number),
         _ => None,
     }
 }
@@ -32,17 +33,16 @@ struct Descent<'a> {
 }
 
 impl<'a> Descent<'a> {
-    // 0 after the end
-    fn byte_at(&self, at: usize) -> u8 {
-        self.text.get(at).copied().unwrap_or(0)
+    fn byte_at(&self, at: usize) -> Option<u8> {
+        self.text.get(at).copied()
     }
 
     fn field(&self, at: usize) -> Option<u64> {
         match self.byte_at(at) {
-            b'c' => Some(u64::from(self.lot.class)),
-            b'r' => Some(u64::from(self.lot.rating)),
-            b'm' => Some(u64::from(self.lot.months)),
-            b'i' => Some(u64::from(self.lot.issuer)),
+            Some(b'c') => Some(u64::from(self.lot.class)),
+            Some(b'r') => Some(u64::from(self.lot.rating)),
+            Some(b'm') => Some(u64::from(self.lot.months)),
+            Some(b'i') => Some(u64::from(self.lot.issuer)),
             _ => None,
         }
     }
@@ -63,8 +63,8 @@ impl<'a> Descent<'a> {
     // A number, which is 0 or has a first digit that is not 0.
     fn number(&self, at: usize) -> Result<(u64, usize), usize> {
         match self.byte_at(at) {
-            b'0' => Ok((0, at.saturating_add(1))),
-            b'1'..=b'9' => Ok(self.digits(at)),
+            Some(b'0') => Ok((0, at.saturating_add(1))),
+            Some(b'1'..=b'9') => Ok(self.digits(at)),
             _ => Err(at),
         }
     }
@@ -86,13 +86,13 @@ impl<'a> Descent<'a> {
         let after = at.saturating_add(1);
         let Some((joint, inner)) = part.joint() else {
             return match self.byte_at(at) {
-                b'!' => {
+                Some(b'!') => {
                     let (answer, end) = self.part(after, Part::Factor, fuel - 1)?;
                     Ok((!answer, end))
                 }
-                b'(' => {
+                Some(b'(') => {
                     let (answer, end) = self.part(after, Part::Rule, fuel - 1)?;
-                    if self.byte_at(end) != b')' {
+                    if self.byte_at(end) != Some(b')') {
                         return Err(end);
                     }
                     Ok((answer, end.saturating_add(1)))
@@ -101,8 +101,9 @@ impl<'a> Descent<'a> {
             };
         };
         let (mut answer, mut end) = self.part(at, inner, fuel - 1)?;
+        // Bounded by the length of a text, so that it ends.
         for _ in 0..LONGEST {
-            if self.byte_at(end) != joint {
+            if self.byte_at(end) != Some(joint) {
                 break;
             }
             let (next, after) = self.part(end.saturating_add(1), inner, fuel - 1)?;
@@ -120,7 +121,7 @@ impl<'a> Descent<'a> {
         let sign = self.byte_at(at.saturating_add(1));
         let first = at.saturating_add(2);
         let named = self.field(at).is_some() && holds(0, sign, 0).is_some();
-        named && self.byte_at(first) != b'0' && self.digits(first).0 > LARGEST
+        named && self.byte_at(first) != Some(b'0') && self.digits(first).0 > LARGEST
     }
 
     // Where the first number too large begins.

@@ -13,7 +13,8 @@ use tally::Tally;
 
 const TEXTS: u32 = 12000;
 
-// A xorshift generator of pseudo-random numbers.
+// A xorshift generator of pseudo-random numbers, of this trial alone: the texts that are tried are those of its
+// sequence.
 #[derive(Clone, Copy)]
 struct Seed {
     state: u64,
@@ -131,6 +132,7 @@ fn wrapped(heap: Global, seed: &mut Seed, fuel: u32) -> Result<Vec<u8>, AllocErr
 // The text with a byte changed, put in or left out.
 fn damaged(heap: Global, seed: &mut Seed, text: &[u8]) -> Result<Vec<u8>, AllocError> {
     let place = seed.below(text.len() as u64) as usize;
+    // The way, drawn as a number: changed, put in, left out.
     let way = seed.below(3);
     let (before, rest) = text.split_at(place);
     let mut other = Vec::from_slice(heap, before)?;
@@ -150,6 +152,7 @@ fn damaged(heap: Global, seed: &mut Seed, text: &[u8]) -> Result<Vec<u8>, AllocE
 fn long_text(heap: Global, seed: &mut Seed) -> Result<Vec<u8>, AllocError> {
     let mut text = Vec::new(heap);
     let enough = 850 + seed.below(200) as usize;
+    // Bounded, so that it ends: sixty-four tests are longer than any text needs.
     for _ in 0..64 {
         let depth = 14 + seed.below(3) as usize;
         repeat(&mut text, b"(", depth)?;

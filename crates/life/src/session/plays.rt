@@ -33,8 +33,8 @@ impl<B: Binder> Session<B> {
         }
     }
 
-    // What `play` does. The proof is by hand, so it stands apart: the check proves `play` from these
-    // clauses alone.
+    // What `play` does. It stands apart since its proof is by hand: a planted bug in it would be refused at
+    // a term of that proof, which shows nothing, and one in `play` is refused by these clauses.
     fn carry_out_all(
         &mut self,
         orders: &[Order],
