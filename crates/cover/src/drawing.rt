@@ -37,6 +37,7 @@ impl Problem {
     {
         let mut first = [None; 256];
         let mut slots = [0usize; LOTS];
+        // No `array::from_fn`: its closure would change what is noted of the lots so far.
         for (l, slot) in slots.iter_mut().enumerate() {
             *slot = self.slot_at(&mut first, l);
         }

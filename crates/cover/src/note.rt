@@ -90,6 +90,7 @@ impl Reached<'_> {
     fn issuer_words(&self) -> [u64; EXPOSURES]
         ensures { (e : ℕ) → e < 16 → (t : ℕ) → t < 64 → bit (at result e) t ≡ (marked self.now).issuers e t }
     {
+        // No `array::from_fn`, as for the flags above.
         let mut words = [0u64; EXPOSURES];
         for (e, word) in words.iter_mut().enumerate() {
             *word = self.issuer_word(e);

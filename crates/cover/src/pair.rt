@@ -48,7 +48,7 @@ impl Pair {
         Pair { lot, exposure }
     }
 
-    // The pair of number `k`.
+    // The pair of number `k`. No `From`, since not every number is one.
     pub fn of(k: usize) -> Pair
         requires { k < 1024 }
         ensures { (result.lot ≡ k / 16) × (result.exposure ≡ k % 16) }

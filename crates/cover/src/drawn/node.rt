@@ -16,7 +16,7 @@ pub enum Node {
 }
 
 impl Node {
-    // The node of number `v`.
+    // The node of number `v`. No `From`, since not every number is one.
     pub fn of(v: usize) -> Node
         requires { v < 1106 }
         ensures { Numbered v result }
