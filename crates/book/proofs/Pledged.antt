@@ -1,11 +1,12 @@
 -- Places of lots and exposures that are filled or emptied, and the pledges that lie on them.
 
-use Rattle.std.proofs.Common.{◌≡◌, ℕ, zero, suc, ◌+◌, ◌*◌, ◌/◌, ◌%◌, ◌<◌, true, false, ltb, ◌≢◌, ◌⊎◌, List, [], ◌∷◌, length, get_or, set, is_some, Some, None, Option, sym, refl, subst, inl, inr, ⊎_elim, arith, length-set, get_or-set_other}
+use Rattle.std.proofs.Common.{◌≡◌, ℕ, zero, suc, ◌+◌, ◌*◌, ◌/◌, ◌%◌, ◌<◌, true, false, ltb, ◌≢◌, ◌⊎◌, List, [], ◌∷◌, get_or, set, is_some, Some, None, Option, sym, refl, subst, inl, inr, ⊎_elim, arith, get_or-set_other}
 use Rattle.std.proofs.lemmas.Bool.Decides.{nat_tests}
 use Rattle.std.proofs.lemmas.Bool.{cases_eq}
 use Rattle.network.specs.Sums.{sum_over}
 use Rattle.network.proofs.Sums.{sum_term}
 use Rattle.curve.specs.declared.lot.Lot.{Lot}
+use Rattle.calls.proofs.Zeroed.{set_zero}
 use Rattle.calls.specs.declared.Exposure.{Exposure}
 use Rattle.calls.specs.State.{table}
 use Rattle.calls.specs.Step.{zeroed}
@@ -50,17 +51,6 @@ lot_emptied lots xs t p free g q h =
           omega (arith, term, some, unpledged (sum_over 16 (λ k. table t p k)) free)) on.0,
       on.1,
     )
-
--- a column of zeros
-set_zero : (t : List ℕ) (i : ℕ) → get_or (set t i 0) i 0 ≡ 0
-set_zero [] i = refl
-set_zero (x ∷ t) zero = refl
-set_zero (x ∷ t) (suc i) = set_zero t i
-
-pub zeroed_length : (t : List ℕ) (e n : ℕ) → length (zeroed t e n) ≡ length t
-unfolding zeroed
-zeroed_length t e zero = refl
-zeroed_length t e (suc n) = simp length-set (zeroed_length t e n)
 
 -- at each place the table is as it was, or 0
 zeroed_or : (t : List ℕ) (e n p : ℕ) → (get_or (zeroed t e n) p 0 ≡ get_or t p 0) ⊎ (get_or (zeroed t e n) p 0 ≡ 0)

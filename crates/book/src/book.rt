@@ -14,6 +14,7 @@ pub mod runs;
 
 // 64 lot places, 16 exposure places, and two tables with a pledge for each pair of them: what
 // stands, and what the open run works on.
+// No equality and no printing, of some 2,000 numbers: readings and instructions tell of it.
 #[derive(Drop)]
 pub struct Book {
     lots: [Option<Lot>; LOTS],

@@ -82,7 +82,8 @@ impl Change {
     }
 }
 
-// Writes one instruction for each place where the tables differ, and returns their number.
+// Writes one instruction for each place where the tables differ, and returns their number, which the list has room for: callers
+// rest on that without its count.
 pub fn write_changes(
     standing: &[u64; PAIRS],
     working: &[u64; PAIRS],

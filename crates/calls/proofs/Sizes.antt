@@ -14,7 +14,7 @@ use Rattle.calls.specs.Step.{Decided, Grants, with_lot, with_exposure, zeroed}
 use Rattle.calls.specs.Life.{Life, Sizes}
 use Rattle.calls.specs.Life.Life.{opened, next}
 
-length_zeroed : (t : List ℕ) (e n : ℕ) → length (zeroed t e n) ≡ length t
+pub length_zeroed : (t : List ℕ) (e n : ℕ) → length (zeroed t e n) ≡ length t
 unfolding zeroed
 length_zeroed t e zero = refl
 length_zeroed t e (suc n) = length-set (zeroed t e n) (n * 16 + e) 0 ∙ length_zeroed t e n

@@ -7,7 +7,7 @@ use Rattle.calls.specs.State.{table}
 use Rattle.calls.specs.Step.{zeroed}
 
 -- a place that was set to 0 has 0, past the end of the list too
-set_zero : (t : List ℕ) (i : ℕ) → get_or (set t i 0) i 0 ≡ 0
+pub set_zero : (t : List ℕ) (i : ℕ) → get_or (set t i 0) i 0 ≡ 0
 set_zero [] zero = refl
 set_zero [] (suc i) = refl
 set_zero (x ∷ t) zero = refl

@@ -22,7 +22,8 @@ struct Pledge {
     amount: u64,
 }
 
-// A flow that a table is sent along, pledge by pledge. No arc carries more than it can.
+// A flow that a table is sent along, pledge by pledge. No arc carries more than it can. What changes the flow says that the network stays,
+// since a `&mut` might put another in its place.
 #[derive(Drop)]
 struct Loading<'a> {
     drawn: &'a Drawn<'a>,

@@ -34,6 +34,7 @@ fn word<const N: usize, F: Fn(usize) -> bool>(marked: F) -> u64
     pack(&flags)
 }
 
+// Places are numbers below their bounds here, and no type of their own: each comes from a loop over them.
 impl Reached<'_> {
     // An open exposure is marked where it is not reached.
     fn exposure_marked(&self, e: usize) -> bool

@@ -94,7 +94,7 @@ impl<G: Network> Residual<'_, '_, G> {
     }
 }
 
-// Sends `x` along the residual arc `a`.
+// Sends `x` along the residual arc `a`. A `Residual` lends its flow to be read, so one that is written has its length in the contract.
 fn send_one<G: Network>(network: &G, flow: &mut [u64], a: usize, x: u64)
     requires sizes { (length flow.old ≡ (G.net network.now).arcs) × (a < 2 * (G.net network.now).arcs) }
     requires fits { x ≤ room (G.net network.now) (at flow.old) a }

@@ -1,6 +1,7 @@
 //! The memory that the solver works in, which its caller lends.
 
 /// Four lists of numbers, each with a place for each node at least.
+// Whether they suffice depends on the network, so it is said of both, by `Fits` and `Kept`, and is no invariant of the memory alone.
 #[derive(Debug, Drop)]
 pub struct Memory<'a> {
     /// At the end above 0 at the nodes that are still reached. The words are the caller's, so 0 stands for

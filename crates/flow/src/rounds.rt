@@ -36,6 +36,7 @@ pub(crate) fn clear(flow: &mut [u64])
 }
 
 // Rounds of layers and a flow that blocks them, from the flow `start`, which `flow` holds, until the sink is out of reach. Returns how many.
+// Network, flow and memory are handed on as the two public calls were given them: a struct of the three would be made to be taken apart below.
 fn run<G: Network>(network: &G, flow: &mut [u64], memory: &mut Memory) -> usize
     ghost start: { ℕ → ℕ }
     requires whole { length flow.old ≡ (G.net network.now).arcs }

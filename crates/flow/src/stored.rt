@@ -21,6 +21,7 @@ pub const MAX_ENDS: usize = 2 * MAX_ARCS;
 
 /// A list of arcs, to which more are added. `ends[2k]` is the head of the arc k, and `ends[2k + 1]` its tail. The capacities add up to `total`.
 // No heap: the arrays are fixed. They are two, and no array of arcs, so that one step reads the node that a residual arc enters, either way.
+// No equality and no printing, of some 12,000 numbers: nothing asks for them.
 #[derive(Drop)]
 pub struct ArcList {
     pub nodes: usize,
@@ -38,7 +39,8 @@ pub struct ArcList {
 }
 
 /// The network of a list of arcs, with the residual arcs that leave a node v side by side: `degree[v]` of them from `rows[start[v]]` on.
-// No heap: the arrays are fixed. Degrees and starts are two, and no array of pairs, since a question reads one of them.
+// No heap: the arrays are fixed. Degrees and starts are two, and no array of pairs, since a question reads one of them. As little is it
+// compared or printed.
 #[derive(Drop)]
 pub struct StoredNetwork {
     pub list: ArcList,

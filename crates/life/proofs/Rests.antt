@@ -1,6 +1,6 @@
 -- Behind the instructions that a call writes, the list that it was lent is as it was; a refusal leaves all of it.
 
-use Rattle.std.proofs.Common.{◌≡◌, ℕ, List, length, drop, Some, None, Option, refl, ap}
+use Rattle.std.proofs.Common.{◌≡◌, ℕ, List, length, drop, Some, None, Err, Option, refl, ap, arith}
 use Rattle.std.proofs.lemmas.List.{drop_at}
 use Rattle.cause.specs.declared.Cause.{Cause}
 use Rattle.binder.specs.Meaning.{Meaning}
@@ -13,6 +13,8 @@ use Rattle.calls.specs.Call.Outcome.{refused, closed, settled}
 use Rattle.calls.specs.Step.{Step, Decided}
 use Rattle.book.specs.View.{numbers}
 use Rattle.book.specs.declared.slip.Slip.{Slip}
+use Rattle.life.specs.Turn.{Wrote}
+use Rattle.life.specs.declared.order.Refused.{Refused}
 use Rattle.life.proofs.Slips.{refused_keeps}
 
 written_rest : (front list new : List Instruction) (n : ℕ) → n ≡ length front → new ≡ written front list → drop n new ≡ drop n list
@@ -37,3 +39,7 @@ module _ (m : Meaning) (s t : State) where
   pub settle_kept : (x y : Slip) (list new : List Instruction) (e : Cause)
       → Step m (settle (numbers x) list) s (refused e (record { slip = Some (numbers y); list = new; note = None })) t → new ≡ list
   settle_kept x y list new e step = ap (λ (b : Back). b.list) (refused_keeps m (settle (numbers x) list) s t e _ step).1
+
+-- what is refused wrote nothing
+pub kept_wrote : (e : Refused) {list new : List Instruction} → new ≡ list → Wrote (Err e) list new
+kept_wrote e p = record { room = omega arith; behind = ap (drop 0) p }

@@ -1,6 +1,6 @@
 -- To believe: what it means that an order, and a list of orders, is carried out.
 
-use Rattle.std.specs.Prelude.{◌≡◌, ℕ, cond, List, [], ◌∷◌, ◌++◌, Some, None, Ok, Err, Option, Result}
+use Rattle.std.specs.Prelude.{◌≡◌, ℕ, ◌≤◌, cond, List, [], ◌∷◌, ◌++◌, length, drop, Some, None, Ok, Err, Option, Result}
 use Rattle.binder.specs.Meaning.{Meaning}
 use Rattle.curve.specs.declared.card.Card.{Card}
 use Rattle.calls.specs.declared.Instruction.{Instruction}
@@ -66,6 +66,11 @@ count_of (Ok (grant.Allocated k)) = 0
 count_of (Ok (grant.Settled n)) = n
 count_of (Ok grant.Abandoned) = 0
 count_of (Err e) = 0
+
+-- an order tells of so many instructions: they stand at the start of the list that it was lent, which is as it was behind them
+pub record Wrote (o : Outcome) (before after : List Instruction) : Type 0 where
+  pub room : count_of o ≤ length before
+  pub behind : drop (count_of o) after ≡ drop (count_of o) before
 
 -- an order is carried out: its call is made, or there is none to make and nothing happens
 pub data Turn (m : Meaning) (k : Card) (o : Order) (s : State) : Outcome → List Instruction → State → Type 0 where

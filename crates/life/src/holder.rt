@@ -5,7 +5,7 @@ ghost use Rattle.std.specs.Prelude.{◌≡◌, ◌≤◌, [], length, take, drop
 ghost use Rattle.binder.specs.Meaning.{Meaning};
 ghost use Rattle.curve.specs.declared.card.Card.{Card as Carded};
 ghost use Rattle.book.specs.View.{view};
-ghost use Rattle.life.specs.Turn.{Turn, count_of};
+ghost use Rattle.life.specs.Turn.{Turn, Wrote, count_of};
 ghost use Rattle.life.specs.Matched.{Matched};
 ghost use Rattle.life.specs.Reported.{reported};
 ghost use Rattle.life.specs.declared.order.Order.TheVariants.{Add, Withdraw, Open, Close, Begin, Allocate, Settle, Abandon};
@@ -51,7 +51,8 @@ fn keep(place: &mut Option<Slip>, slip: Slip)
     }
 }
 
-// The slip is held exactly while a run is open.
+// The slip is held exactly while a run is open. An order that writes nothing says so (`none`), since its outcome
+// alone tells how many instructions it wrote.
 pub(crate) struct Holder {
     pub(crate) book: Book,
     pub(crate) slip: Option<Slip>,
@@ -85,8 +86,7 @@ impl Holder {
 
     fn close(&mut self, place: u64, list: &mut [Instruction]) -> Outcome
         ensures turn { (m : Meaning) (k : Carded) → Turn m k (Close place) (view self.old.book) result (take (count_of result) list.new) (view self.new.book) }
-        ensures room { count_of result ≤ length list.old }
-        ensures behind { drop (count_of result) list.new ≡ drop (count_of result) list.old }
+        ensures wrote { Wrote result list.old list.new }
     {
         let count = self.book.close(place, list)?;
         Ok(Granted::Closed(count))
@@ -118,8 +118,7 @@ impl Holder {
 
     fn settle(&mut self, list: &mut [Instruction]) -> Outcome
         ensures turn { (m : Meaning) (k : Carded) → Turn m k Settle (view self.old.book) result (take (count_of result) list.new) (view self.new.book) }
-        ensures room { count_of result ≤ length list.old }
-        ensures behind { drop (count_of result) list.new ≡ drop (count_of result) list.old }
+        ensures wrote { Wrote result list.old list.new }
     {
         let slip = self.slip.take().ok_or(Refused::NoSlip)?;
         match self.book.settle(slip, list) {
@@ -152,8 +151,7 @@ impl Holder {
         card: &Card,
     ) -> Outcome
         ensures turn { Turn (B.Binder.meaning binder.now) card.now order (view self.old.book) result (take (count_of result) list.new) (view self.new.book) }
-        ensures room { count_of result ≤ length list.old }
-        ensures behind { drop (count_of result) list.new ≡ drop (count_of result) list.old }
+        ensures wrote { Wrote result list.old list.new }
     {
         match order {
             Order::Add(place, terms) => self.add(place, &terms, card),

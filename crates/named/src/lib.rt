@@ -18,6 +18,7 @@ use binder::switch::Switch;
 use grammar::Description;
 use std::alloc::{AllocError, Global};
 
+// No equality and no printing: two of them differ in what they admit, which no derive compares.
 #[derive(Drop)]
 pub enum AnyBinder {
     Table(RatingTable),

@@ -24,7 +24,8 @@ impl From<u8> for Kind {
 }
 
 // How many bytes at the front are of a kind. By bytes: std's lemmas on texts know one char as a pattern and no
-// set of them, and split_ascii_whitespace takes a form feed for a blank and keeps no rest.
+// set of them, and split_ascii_whitespace takes a form feed for a blank and keeps no rest. And by kind, not by a test in its place:
+// where a word ends is defined by kinds.
 fn run(bytes: &[u8], of: Kind) -> usize
     ensures within { result ≤ length bytes.now }
     ensures all { (i : ℕ) → i < result → kind (slice_index bytes.now i) ≡ of }

@@ -78,7 +78,7 @@ impl Session {
         }
     }
 
-    // Adds a lot with its collateral value.
+    // Adds a lot with its collateral value. Of stage, card and places each function here changes some, and says which stay.
     fn add(&mut self, place: u64, terms: &Terms) -> Result<Lot, Cause>
         ensures stage { self.new.stage ≡ self.old.stage }
         ensures card { self.new.card ≡ self.old.card }

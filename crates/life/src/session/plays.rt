@@ -52,7 +52,8 @@ impl<B: Binder> Session<B> {
     {
         let n = orders.len().min(outcomes.len());
         let mut used = 0;
-        // by index, since nothing is known of what was written through a `zip` over `iter_mut`
+        // By index, since nothing is known of what was written through a `zip` over `iter_mut`; and with a count, since the
+        // journal is the caller's.
         for i in 0..n {
             let lent = &mut journal[used..];
             let outcome = self

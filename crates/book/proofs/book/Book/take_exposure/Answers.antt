@@ -1,7 +1,8 @@
 use Rattle.std.proofs.Common.{◌<◌, length, None, sym, ap, ◌∙◌, arith, length-set}
 use Rattle.calls.specs.Situation.{amount_of}
 use Rattle.calls.specs.Step.{zeroed}
-use Rattle.book.proofs.Pledged.{low_set, zeroed_length, zeroed_low, exposure_emptied}
+use Rattle.calls.proofs.Sizes.{length_zeroed}
+use Rattle.book.proofs.Pledged.{low_set, zeroed_low, exposure_emptied}
 use Rattle.book.proofs.Few.{few_closings}
 use Rattle.book.proofs.book.Book.take_exposure.Goals as goal
 
@@ -22,7 +23,7 @@ invariant_of-self c =
     let is' = c.zero_column-2.ensures in
     record {
       places = (b.places.0, length-set b.exposures e None ∙ b.places.1);
-      tables = (ap length is ∙ (zeroed_length b.standing e 64 ∙ b.tables.0), ap length is' ∙ (zeroed_length b.working e 64 ∙ b.tables.1));
+      tables = (ap length is ∙ (length_zeroed b.standing e 64 ∙ b.tables.0), ap length is' ∙ (length_zeroed b.working e 64 ∙ b.tables.1));
       grounded = exposure_emptied b.standing st e is b.lots b.exposures within b.grounded;
       grounded_working = exposure_emptied b.working wt e is' b.lots b.exposures within b.grounded_working;
       low = zeroed_low b.standing st e is b.low;

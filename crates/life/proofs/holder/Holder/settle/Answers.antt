@@ -5,7 +5,7 @@ use Rattle.book.specs.View.{view, numbers}
 use Rattle.life.specs.Turn.{made, idle}
 use Rattle.life.specs.Matched.{has_slip}
 use Rattle.life.proofs.Slips.{blank_note, no_meaning, slip_call, no_call, none_left, settled_over, settle_back, over}
-use Rattle.life.proofs.Rests.{settled_rest, settle_kept}
+use Rattle.life.proofs.Rests.{settled_rest, settle_kept, kept_wrote}
 use Rattle.life.proofs.holder.Holder.settle.Goals as goal
 
 pub returns-in_err-slip-clause-turn : goal.returns-in_err-slip-clause-turn
@@ -38,8 +38,8 @@ returns-in-Ok-clause-turn c =
     let list = c.args.list.now in
     λ m k. made list blank_note (settle (numbers x) list) (slip_call s x (λ n. settle n list) held) _ _ (c.in-Ok.ensures.step m)
 
-pub returns-in-Ok-clause-behind : goal.returns-in-Ok-clause-behind
-returns-in-Ok-clause-behind c = settled_rest no_meaning (view c.args.self.now.book) (view c.settle.new.self) (numbers c.in_ok-slip.slip) c.args.list.now _ _ (c.in-Ok.ensures.step no_meaning)
+pub returns-in-Ok-clause-wrote : goal.returns-in-Ok-clause-wrote
+returns-in-Ok-clause-wrote c = record { room = c.in-Ok.ensures.room; behind = settled_rest no_meaning (view c.args.self.now.book) (view c.settle.new.self) (numbers c.in_ok-slip.slip) c.args.list.now _ _ (c.in-Ok.ensures.step no_meaning) }
 
 pub returns-in-Err-clause-turn : goal.returns-in-Err-clause-turn
 returns-in-Err-clause-turn c =
@@ -49,5 +49,5 @@ returns-in-Err-clause-turn c =
     let list = c.args.list.now in
     λ m k. made list blank_note (settle (numbers x) list) (slip_call s x (λ n. settle n list) held) _ _ (c.in-Err.ensures.step m)
 
-pub returns-in-Err-clause-behind : goal.returns-in-Err-clause-behind
-returns-in-Err-clause-behind c = settle_kept no_meaning (view c.args.self.now.book) _ c.in_ok-slip.slip c.in-Err.slip c.args.list.now _ c.in-Err.cause (c.in-Err.ensures.step no_meaning)
+pub returns-in-Err-clause-wrote : goal.returns-in-Err-clause-wrote
+returns-in-Err-clause-wrote c = kept_wrote _ (settle_kept no_meaning (view c.args.self.now.book) _ c.in_ok-slip.slip c.in-Err.slip c.args.list.now _ c.in-Err.cause (c.in-Err.ensures.step no_meaning))

@@ -25,7 +25,7 @@ loop-i-preserved g c =
     let outcome = c.carry_out-outcome.result in
     let n = count_of outcome in
     let e = c.carry_out-outcome.ensures in
-    let room : n ≤ length rest = omega (arith, e.room, c.carry_out-outcome.auto.list) in
+    let room : n ≤ length rest = omega (arith, e.wrote.room, c.carry_out-outcome.auto.list) in
     let size = length journal - used in
     let low : c.loop-i.i < min (length c.args.orders.now) (length c.args.outcomes.now) = omega (arith, c.min-n.ensures) in
     let turn = subst (λ b. Turn (g.B.Binder.meaning b) self.card (get_or c.args.orders.now c.loop-i.i (Add 0 blank)) (view c.loop-i.self.holder.book) outcome (take n rest) (view c.carry_out-outcome.new.self.book)) inv.1.0
@@ -36,7 +36,7 @@ loop-i-preserved g c =
       play_more journal rest used n size inv.0 room (g.B.Binder.meaning self.binder) self.card (view self.holder.book) (view c.loop-i.self.holder.book) (view c.carry_out-outcome.new.self.book)
           c.args.orders.now c.loop-i.outcomes c.loop-i.i (Add 0 blank) outcome (omega (arith, low)) (omega (arith, low, c.loop-i.auto.outcomes)) inv.2 turn,
       drop_next c.loop-i.outcomes c.args.outcomes.now c.loop-i.i outcome inv.3,
-      journal_rest journal rest used n size inv.0 room c.args.journal.now (take size (drop used journal)) refl (take_rest journal used) inv.4 e.behind,
+      journal_rest journal rest used n size inv.0 room c.args.journal.now (take size (drop used journal)) refl (take_rest journal used) inv.4 e.wrote.behind,
     )
 
 pub returns : goal.returns
