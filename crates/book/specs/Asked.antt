@@ -1,4 +1,4 @@
--- The answers of a binder that are written down for an allocation. No promise rests on reading them.
+-- To believe: nothing that a call promises. The answers of a binder that are written down for an allocation. No promise rests on reading them.
 
 use Rattle.std.specs.Prelude.{ℕ, Some, None, Option}
 use Rattle.binder.specs.Meaning.{Meaning}

@@ -1,4 +1,4 @@
--- What an allocation does to the book and the record, once the slip is in order. Said again by the relation over calls.
+-- To believe: nothing that a call promises. What an allocation does to the book and the record, once the slip is in order. Said again by the relation over calls.
 
 use Rattle.std.specs.Prelude.{◌≡◌, ℕ, length, Ok, Err, Result}
 use Rattle.binder.specs.Meaning.{Meaning}

@@ -1,4 +1,4 @@
--- What every book keeps, whatever its binder: a pledge lies on a held lot and an open exposure, and numbers are small enough for
+-- To believe: nothing that a call promises. What every book keeps, whatever its binder: a pledge lies on a held lot and an open exposure, and numbers are small enough for
 -- every sum. These are invariants of the type; no promise rests on reading them.
 
 use Rattle.std.specs.Prelude.{◌≡◌, ℕ, ◌/◌, ◌%◌, ◌^◌, ◌<◌, true, List, Option, slice_index}

@@ -19,6 +19,7 @@ pub mod runs;
 pub struct Book {
     lots: [Option<Lot>; LOTS],
     exposures: [Option<Exposure>; EXPOSURES],
+    // of fixed size, since every pair of places has a pledge, if only of 0
     standing: [u64; PAIRS],
     working: [u64; PAIRS],
     number: u16,

@@ -1,4 +1,4 @@
--- The arrays that hold a drawn network: each arc's capacity, each lot's slot, and the lots of each slot.
+-- To believe: nothing that a call promises. The arrays that hold a drawn network: each arc's capacity, each lot's slot, and the lots of each slot.
 
 use Rattle.std.specs.Prelude.{◌≡◌, ℕ, ◌+◌, ◌*◌, ◌<◌, true, false, List, Option, Some, None, ◌==◌, slice_index_or}
 use Rattle.network.specs.Sums.{sum_over, when}

@@ -1,4 +1,4 @@
--- How a table is sent along the arcs, pledge by pledge.
+-- To believe: nothing that a call promises. How a table is sent along the arcs, pledge by pledge.
 
 use Rattle.std.specs.Prelude.{◌≡◌, ℕ, ◌+◌, ◌/◌, ◌%◌, ◌<◌, ◌≤◌, List, Option, Some, None, ◌≢◌, nat_eq}
 use Rattle.network.specs.Sums.{sum_over, Agree}

@@ -1,4 +1,4 @@
--- The marks that the nodes which a search reached give.
+-- To believe: nothing that a call promises. The marks that the nodes which a search reached give.
 
 use Rattle.std.specs.Prelude.{nat_lt}
 use Rattle.table.specs.Record.{Marks, marks_of}

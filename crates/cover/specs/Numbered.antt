@@ -1,4 +1,4 @@
--- The kinds of nodes, and the node that a number stands for.
+-- To believe: nothing that a call promises. The kinds of nodes, and the node that a number stands for.
 
 use Rattle.std.specs.Prelude.{◌≡◌, ℕ, ◌<◌}
 use Rattle.table.specs.Drawn.{node}

@@ -1,4 +1,4 @@
--- What a drawn network shows: the situation of its problem, and the lots of each slot.
+-- To believe: nothing that a call promises. What a drawn network shows: the situation of its problem, and the lots of each slot.
 
 use Rattle.std.specs.Prelude.{ℕ, ◌+◌, ◌*◌}
 use Rattle.table.specs.Table.{Situation}

@@ -1,4 +1,4 @@
--- A session holds the slip of its book's open run, and none where no run is open.
+-- To believe: nothing that a call promises. A session holds the slip of its book's open run, and none where no run is open.
 
 use Rattle.std.specs.Prelude.{◌≡◌, Bool, true, not, Some, None, Option}
 use Rattle.calls.specs.State.{State}

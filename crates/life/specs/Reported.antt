@@ -1,4 +1,4 @@
--- What is told of the answer of an allocation.
+-- To believe: nothing that a call promises. What is told of the answer of an allocation.
 
 use Rattle.std.specs.Prelude.{ℕ, Ok, Err, Result}
 use Rattle.cause.specs.declared.Cause.TheVariants.{SlipStale}
