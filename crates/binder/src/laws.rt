@@ -19,7 +19,7 @@ pub fn exclusions_are_exact() -> u8
 }
 
 // A pair is its first binder at 16 and its second at 0, and pairs associate.
-#[tactic(auto, using(crate::proofs::Past::admits_past, crate::proofs::Past::share_past))]
+#[tactic(auto, using(crate::proofs::Past::first_at_16, crate::proofs::Past::second_at_0))]
 pub fn pairs_are_exact() -> u8
     ensures ends { PairAtEnds }
     ensures associate { PairsAssociate }

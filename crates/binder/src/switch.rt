@@ -55,8 +55,9 @@ impl Switch {
         }
     }
 
-    // What the binder answers that the number belongs to.
-    pub fn ask<A, F: FnOnce(u64) -> A, G: FnOnce(u64) -> A>(
+    // What the binder answers that the number belongs to. Of this crate alone: it asks that the closures may be called, and
+    // a public call asks nothing.
+    pub(crate) fn ask<A, F: FnOnce(u64) -> A, G: FnOnce(u64) -> A>(
         &self,
         number: u64,
         first: F,

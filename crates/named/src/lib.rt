@@ -14,7 +14,7 @@ use binder::Binder;
 use binder::issuers::Issuers;
 use binder::rating::RatingTable;
 use binder::schedule::RuleSchedule;
-use binder::switch::Switch;
+use binder::switch::{Side, Switch};
 use grammar::Description;
 use std::alloc::{AllocError, Global};
 
@@ -60,7 +60,10 @@ fn side<'a>(
 ) -> Option<(&'a AnyBinder, u64)>
     ensures { Asked switch.now.at number (λ n b. (b.0.now ≡ first.now) × (b.1 ≡ n)) (λ n b. (b.0.now ≡ second.now) × (b.1 ≡ n)) result }
 {
-    switch.ask(number, |n| (first, n), |n| (second, n))
+    match switch.route(number)? {
+        (Side::First, n) => Some((first, n)),
+        (Side::Second, n) => Some((second, n)),
+    }
 }
 
 // The types `Exclusion` and `Pair` of the crate binder would hand each question on, but a cycle of calls

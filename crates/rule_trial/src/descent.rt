@@ -50,9 +50,11 @@ impl<'a> Descent<'a> {
     // The digits from `at`: what they amount to, capped, and where they end.
     fn digits(&self, at: usize) -> (u64, usize) {
         let mut value: u64 = 0;
-        for (i, byte) in self.text.iter().enumerate().skip(at) {
+        // By a slice: `skip` goes through all bytes before `at`, for each number.
+        let rest = self.text.get(at..).unwrap_or(&[]);
+        for (i, byte) in rest.iter().enumerate() {
             if !byte.is_ascii_digit() {
-                return (value, i);
+                return (value, at.saturating_add(i));
             }
             let digit = u64::from(*byte).saturating_sub(48);
             value = value.saturating_mul(10).saturating_add(digit).min(1000000);

@@ -84,11 +84,14 @@ impl<'a> Words<'a> {
         ensures { IfOk result (λ l. Follows (codes "book") self.old.rest.now l) }
     {
         let expected = Expected::BookNumber;
-        let mut ahead = *self;
-        let found = ahead.next();
+        let mut at = *self;
         let number = self.number()?;
         self.end()?;
-        let number = u16::try_from(number).map_err(|_| BadLine { expected, found })?;
+        // Its word is looked for again only where it is refused.
+        let number = u16::try_from(number).map_err(|_| BadLine {
+            expected,
+            found: at.next(),
+        })?;
         Ok(Line::Book(number))
     }
 

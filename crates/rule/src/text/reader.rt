@@ -189,15 +189,14 @@ impl Reader {
         }
     }
 
-    // The rule, complete where the text ends.
-    fn conclude(mut self) -> Rule
-        requires whole { ends self.mode ≡ true }
-        requires room { weight (state self) ≤ most_steps }
-        ensures { Concluded (state self) (waiting self.outer) (written result) }
+    // Completes the rule where the text ends. The reader is lent, since to move one copies its steps once more.
+    fn conclude(&mut self)
+        requires whole { ends self.old.mode ≡ true }
+        requires room { weight (state self.old) ≤ most_steps }
+        ensures { Concluded (state self.old) (waiting self.old.outer) (written self.new.rule) }
     {
         self.settle();
         self.rule.end(self.level);
-        self.rule
     }
 }
 
@@ -211,5 +210,6 @@ pub fn read(text: &[u8]) -> Result<Rule, TextFault>
         reader.take(*byte, place)?;
     }
     TextFault::refuse_if(!reader.may_end(), Cause::ByteUnexpected, text.len())?;
-    Ok(reader.conclude())
+    reader.conclude();
+    Ok(reader.rule)
 }
