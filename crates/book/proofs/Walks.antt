@@ -1,12 +1,12 @@
 -- Walks over lots, exposures and tables.
 
-use Rattle.std.proofs.Common.{◌≡◌, ℕ, zero, suc, ◌+◌, ◌*◌, ◌<◌, ltb, List, [], ◌∷◌, ◌++◌, length, drop, get_or, set, filter, is_some, Some, None, Option, sym, refl, ap, ◌∙◌, add-one, zero-add, arith, length-drop, length-append}
+use Rattle.std.proofs.Common.{◌≡◌, ℕ, zero, suc, ◌+◌, ◌*◌, ◌<◌, Bool, true, false, ltb, List, [], ◌∷◌, ◌++◌, length, drop, get_or, set, sym, refl, ap, ◌∙◌, add-one, zero-add, arith, length-drop, length-append}
 use Rattle.std.specs.List.{list_any}
 use Rattle.std.proofs.lemmas.Bool.Decides.{nat_tests}
 use Rattle.std.proofs.lemmas.List.{drop_at, drop-drop, get_or-drop}
 use Rattle.std.proofs.Math.ListN.{get_or-append}
 use Rattle.network.specs.Sums.{sum_over, when}
-use Rattle.network.proofs.Sums.{sum_start, sum_same}
+use Rattle.network.proofs.Sums.{sum_start, sum_more, sum_same}
 use Rattle.calls.specs.Call.{count}
 use Rattle.calls.specs.State.{table}
 use Rattle.calls.specs.Step.{zeroed}
@@ -17,11 +17,15 @@ unfolding sum_over
 sum_first zero g = omega arith
 sum_first (suc n) g = ap (λ x. x + g (suc n)) (sum_first n g) ∙ omega arith
 
--- the filled places
-pub filled_is : {A : Type 0} (xs : List (Option A)) → length (filter is_some xs) ≡ count (length xs) (λ k. is_some (get_or xs k None))
-filled_is [] = sym (sum_start _)
-filled_is (None ∷ xs) = omega (arith, filled_is xs, sum_first (length xs) (λ k. when (is_some (get_or (None ∷ xs) k None)) 1))
-filled_is (Some x ∷ xs) = omega (arith, filled_is xs, sum_first (length xs) (λ k. when (is_some (get_or (Some x ∷ xs) k None)) 1))
+-- the filled places, one after the other
+pub count_start : (p : ℕ → Bool) → count 0 p ≡ 0
+count_start p = sum_start (λ k. when (p k) 1)
+
+pub count_hit : (p : ℕ → Bool) (n : ℕ) → p n ≡ true → count (n + 1) p ≡ count n p + 1
+count_hit p n h = sum_more n (λ k. when (p k) 1) ∙ ap (λ b. count n p + when b 1) h
+
+pub count_miss : (p : ℕ → Bool) (n : ℕ) → p n ≡ false → count (n + 1) p ≡ count n p
+count_miss p n h = sum_more n (λ k. when (p k) 1) ∙ (ap (λ b. count n p + when b 1) h ∙ omega arith)
 
 -- some number of a list is above 0
 some_above : (xs : List ℕ) → list_any (ltb 0) xs ≡ ltb 0 (sum_over (length xs) (λ k. get_or xs k 0))
