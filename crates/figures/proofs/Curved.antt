@@ -13,7 +13,7 @@ use Rattle.curve.specs.Lot.{lot_of, collateral, Priced, Unpriced}
 use Rattle.curve.specs.Lot.Unpriced.{outside, past}
 use Rattle.curve.specs.declared.lot.Terms.{Terms}
 use Rattle.curve.specs.declared.lot.Lot.{Lot}
-use Rattle.figures.specs.Curves.{page, curve, Offered, Only, CurveFigures}
+use Rattle.figures.specs.Curves.{page, curve, columns, Offered, Only, CurveFigures}
 
 -- what holds at 0, 1 and 2 holds below 3
 three : (P : ℕ → Type 0) → P 0 → P 1 → P 2 → (j : ℕ) → j < 3 → P j
@@ -42,6 +42,13 @@ accepted =
             haircuts = three (λ j. haircut_breaks curve.haircut j ≡ false) refl refl refl;
           };
     }
+
+-- each list at its three places, and past its end
+same : (j : ℕ) → (columns.month j ≡ curve.month j) × (columns.haircut j ≡ curve.haircut j)
+same zero = (refl, refl)
+same (suc zero) = (refl, refl)
+same (suc (suc zero)) = (refl, refl)
+same (suc (suc (suc j))) = (refl, refl)
 
 -- by the law that a month has one haircut
 only : (m h : ℕ) → Haircut curve m h → Only m h
@@ -93,6 +100,7 @@ pub curve_figures : CurveFigures
 curve_figures =
     record {
       accepted = accepted;
+      columns = (refl, same);
       month_30 = month_30;
       value_30 = λ curves t x. priced curves 30 t x 250 975000 month_30 refl;
       month_61 = month_61;

@@ -4,6 +4,7 @@ use Rattle.std.specs.Prelude.{◌≡◌, ℕ, List, [], ◌∷◌}
 use Rattle.cause.specs.Numbers.{number}
 use Rattle.cause.specs.declared.Cause.{Cause}
 use Rattle.curve.specs.Points.{Points, points, Haircut, Past}
+use Rattle.curve.specs.Listed.{listed}
 use Rattle.curve.specs.Page.{Accepted}
 use Rattle.curve.specs.Lot.{InRange, Priced, Unpriced}
 use Rattle.curve.specs.declared.lot.Terms.{Terms}
@@ -13,7 +14,11 @@ abbrev pub page : List ℕ
 page = 0x03 ∷ 0x00 ∷ 0x00 ∷ 0x3C ∷ 0x00 ∷ 0x68 ∷ 0x01 ∷ 0x64 ∷ 0x00 ∷ 0x90 ∷ 0x01 ∷ 0xD0 ∷ 0x07 ∷ []
 
 abbrev pub curve : Points
-curve = points 3 (0 ∷ 60 ∷ 360 ∷ []) (100 ∷ 400 ∷ 2000 ∷ [])
+curve = listed 3 (record { month = 0; haircut = 100 } ∷ record { month = 60; haircut = 400 } ∷ record { month = 360; haircut = 2000 } ∷ [])
+
+-- the same points, their months in one list and their haircuts in another
+abbrev pub columns : Points
+columns = points 3 (0 ∷ 60 ∷ 360 ∷ []) (100 ∷ 400 ∷ 2000 ∷ [])
 
 -- a lot of market value 1,000,000 at a month, in a class that has this curve
 pub record Offered (curves : ℕ → Points) (m : ℕ) (t : Terms) : Type 0 where
@@ -42,6 +47,7 @@ Only m h = Haircut curve m h × ((h' : ℕ) → Haircut curve m h' → h' ≡ h)
 
 pub record CurveFigures : Type 0 where
   pub accepted : Accepted page curve
+  pub columns : (columns.count ≡ curve.count) × ((j : ℕ) → (columns.month j ≡ curve.month j) × (columns.haircut j ≡ curve.haircut j))
   pub month_30 : Only 30 250
   pub value_30 : Worth 30 975000
   pub month_61 : Only 61 406

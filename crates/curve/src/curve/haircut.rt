@@ -9,9 +9,9 @@ use crate::curve::Curve;
 use crate::curve::point::Point;
 use cause::Cause;
 
-// A quotient rounded up.
+// A quotient rounded up. In 32 bits, which hold every rise between two points and divide faster than 64.
 #[tactic(auto, using(crate::proofs::Rounding::div_ceil_up))]
-fn rounded_up(x: u64, d: u64) -> u64
+fn rounded_up(x: u32, d: u32) -> u32
     requires { 0 < d }
     ensures { result ≡ up x d }
 {
@@ -24,8 +24,8 @@ fn between(from: Point, to: Point, month: u64) -> u16
     requires { (from.month < month) × (month < to.month) × (from.haircut ≤ to.haircut) }
     ensures { result ≡ between_points from.month from.haircut to.month to.haircut month }
 {
-    let rise = u64::from(to.haircut - from.haircut) * (month - u64::from(from.month));
-    from.haircut + rounded_up(rise, u64::from(to.month - from.month)) as u16
+    let rise = u32::from(to.haircut - from.haircut) * (month as u32 - u32::from(from.month));
+    from.haircut + rounded_up(rise, u32::from(to.month - from.month)) as u16
 }
 
 impl Curve {
@@ -33,8 +33,12 @@ impl Curve {
     fn reached(&self, month: u64) -> usize
         ensures { (1 ≤ result) × (result ≤ self.now.count) × ((held self.now).month (result - 1) ≤ month) × (result < self.now.count → month < (held self.now).month result) }
     {
-        self.points()
-            .partition_point(|point| u64::from(point.month) <= month)
+        // a plain walk from the second point on: over so few points `partition_point` and `find` take longer
+        let mut n = 1;
+        while n < self.count && u64::from(self.points[n].month) <= month {
+            n += 1;
+        }
+        n
     }
 
     // The haircut at a month, `n` points being at or before it: the last of them has its own.
