@@ -2,7 +2,6 @@
 
 ghost use Rattle.std.specs.Prelude.{◌≡◌, ℕ, ◌+◌, ◌*◌, ◌^◌, ◌<◌, ◌≤◌, length, ◌≢◌};
 ghost use Rattle.network.specs.Sums.{sum_over};
-ghost use Rattle.flow.specs.declared.stored.TheConstants.{MAX_NODES, MAX_ARCS, MAX_ENDS};
 ghost use Rattle.flow.specs.Lists.{at};
 ghost use Rattle.flow.specs.Stored.{Joins, Degrees, Starts, Rows};
 
@@ -31,7 +30,7 @@ pub struct ArcList {
     pub total: u64,
     pub ends: [u32; MAX_ENDS],
     pub caps: [u64; MAX_ARCS],
-    ghost sizes: { (length ends ≡ MAX_ENDS) × (length caps ≡ MAX_ARCS) × (nodes ≤ MAX_NODES) × (arcs ≤ MAX_ARCS) },
+    ghost sizes: { (length ends ≡ 8192) × (length caps ≡ 4096) × (nodes ≤ 2048) × (arcs ≤ 4096) },
     ghost inner: { (source < nodes) × (sink < nodes) },
     ghost apart: { (source ≢ sink) },
     ghost joins: { Joins nodes arcs ends },
@@ -47,7 +46,7 @@ pub struct StoredNetwork {
     pub degree: [u32; MAX_NODES],
     pub start: [u32; MAX_NODES],
     pub rows: [u32; MAX_ENDS],
-    ghost sizes: { (length degree ≡ MAX_NODES) × (length start ≡ MAX_NODES) × (length rows ≡ MAX_ENDS) },
+    ghost sizes: { (length degree ≡ 2048) × (length start ≡ 2048) × (length rows ≡ 8192) },
     ghost degrees: { Degrees list.nodes (2 * list.arcs) list.ends degree },
     ghost starts: { Starts list.nodes (2 * list.arcs) list.ends start },
     ghost filled: { Rows (2 * list.arcs) list.ends start rows },

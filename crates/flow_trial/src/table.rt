@@ -1,8 +1,7 @@
 //! The table of networks with known answers.
 
 use crate::graph::{Arc, Graph};
-use anyhow::{Context, bail};
-use std::alloc::Global;
+use std::alloc::{AllocError, Global};
 
 /// A line of it: a name, the numbers of nodes, source and sink, the expected value, or another word where the network is to be refused,
 /// and for each arc its tail, head and capacity.
@@ -13,32 +12,40 @@ pub struct Case<'a> {
     pub expected: Option<u64>,
 }
 
+// A word that is missing or is no number counts as 0, so that each line is a case of its own, and none ends the run.
+fn number(word: Option<&str>) -> u64 {
+    word.and_then(|word| word.parse::<u64>().ok()).unwrap_or(0)
+}
+
 impl<'a> Case<'a> {
-    pub fn parse(heap: Global, line: &'a str) -> anyhow::Result<Case<'a>> {
-        let words: Vec<&'a str> = line.split_whitespace().collect(heap)?;
-        let [name, nodes, source, sink, expected, rest @ ..] = words.as_slice() else {
-            bail!("a line of fewer than five words");
-        };
+    pub fn parse(heap: Global, line: &'a str) -> Result<Case<'a>, AllocError> {
+        let mut words = line.split_whitespace();
+        let name = words.next().unwrap_or("");
+        let nodes = number(words.next()) as usize;
+        let source = number(words.next()) as usize;
+        let sink = number(words.next()) as usize;
+        let expected = words.next().and_then(|word| word.parse::<u64>().ok());
+        let numbers: Vec<u64> = words.map(|word| number(Some(word))).collect(heap)?;
         let mut arcs = Vec::new(heap);
-        for arc in rest.chunks(3) {
-            let [tail, head, capacity] = arc else {
-                bail!("an arc of fewer than three words");
-            };
-            arcs.push(Arc {
-                tail: tail.parse::<usize>()?,
-                head: head.parse::<usize>()?,
-                capacity: capacity.parse::<u64>()?,
-            })?;
+        for arc in numbers.chunks(3) {
+            // A last arc of fewer than three words is left out.
+            if let [tail, head, capacity] = *arc {
+                arcs.push(Arc {
+                    tail: tail as usize,
+                    head: head as usize,
+                    capacity,
+                })?;
+            }
         }
         Ok(Case {
             name,
             graph: Graph {
-                nodes: nodes.parse::<usize>()?,
-                source: source.parse::<usize>()?,
-                sink: sink.parse::<usize>()?,
+                nodes,
+                source,
+                sink,
                 arcs,
             },
-            expected: expected.parse::<u64>().ok(),
+            expected,
         })
     }
 }

@@ -29,7 +29,7 @@ fn check_ends(nodes: usize, source: usize, sink: usize) -> Result<(), Unfit>
 
 // Writes the two ends of the arc `k`.
 fn put_ends(ends: &mut [u32; MAX_ENDS], k: usize, tail: u32, head: u32)
-    requires { k < MAX_ARCS }
+    requires { k < 4096 }
     ensures { ends.new ≡ slice_set (slice_set ends.old (2 * k) head) (2 * k + 1) tail }
 {
     ends[2 * k] = head;
