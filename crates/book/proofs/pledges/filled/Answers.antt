@@ -15,11 +15,11 @@ loop-place-preserved g c =
     let default = get_or_default c.args.places.now n None c.place-item.result (omega (arith, c.loop-place-test.true)) in
     elim c.if-is_some.branch [
       | then-is_some w ↦ (
-        let h : test n ≡ true = search (rules, default, c.place-item.is) in
-        let e = count_hit test n h in
-        (omega (arith, e, inv.0, w.count-is), omega (arith, inv.1, w.count-is)))
+          let h : test n ≡ true = search (rules, default, c.place-item.is) in
+          let e = count_hit test n h in
+          (omega (arith, e, inv.0, w.count-is), omega (arith, inv.1, w.count-is)))
       | else-is_some w ↦ (
-        let h : test n ≡ false = search (rules, default, c.place-item.is) in
-        let e = count_miss test n h in
-        (omega (arith, e, inv.0, w.count-is), omega (arith, inv.1, w.count-is)))
+          let h : test n ≡ false = search (rules, default, c.place-item.is) in
+          let e = count_miss test n h in
+          (omega (arith, e, inv.0, w.count-is), omega (arith, inv.1, w.count-is)))
     ]
