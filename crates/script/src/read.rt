@@ -87,12 +87,14 @@ impl<'a> Words<'a> {
         let mut at = *self;
         let number = self.number()?;
         self.end()?;
-        // Its word is looked for again only where it is refused.
-        let number = u16::try_from(number).map_err(|_| BadLine {
-            expected,
-            found: at.next(),
-        })?;
-        Ok(Line::Book(number))
+        // Its word is looked for again only where it is refused. Not by `map_err`: its closure keeps the words in memory, byte for byte.
+        match u16::try_from(number) {
+            Ok(number) => Ok(Line::Book(number)),
+            Err(_) => {
+                let found = at.next();
+                Err(BadLine { expected, found })
+            }
+        }
     }
 
     // `page CLASS HEX HEX ...`, after its first word.
