@@ -34,11 +34,15 @@ impl Criteria for [ClassLimit; 8] {
     }
 }
 
-// Whether the limit of every class is in range.
+// Whether the limit of every class is in range. `position` stops at the first that is not; with `all`, which was
+// tried, every limit is looked at.
 fn are_in_range(limits: &[ClassLimit; 8]) -> bool
     ensures { IsTrue result ↔ LimitsInRange limits.now }
 {
-    limits.iter().all(|limit| limit.is_in_range())
+    limits
+        .iter()
+        .position(|limit| !limit.is_in_range())
+        .is_none()
 }
 
 impl RatingTable {

@@ -71,25 +71,23 @@ fn terms<B: Binder>(binder: &B, lot: Option<Lot>, exposure: Option<Exposure>) ->
     }
 }
 
-// The terms of each pair of a lot place and an exposure place.
-fn all_terms<B: Binder>(
+// Writes down the terms of each pair of a lot place and an exposure place.
+fn note_terms<B: Binder>(
+    problem: &mut Problem,
     binder: &B,
     lots: &[Option<Lot>; 64],
     exposures: &[Option<Exposure>; 16],
-) -> [Terms; 1024]
+)
     requires { Amounts exposures.now }
-    ensures asked { (k : ℕ) → k < 1024 → terms_at result k ≡ terms_for (B.Binder.meaning binder.now) (lot_at lots.now (k / 16)) (exposure_at exposures.now (k % 16)) }
-    ensures low { (k : ℕ) → (terms_at result k).limit < 2 ^ 40 }
+    ensures rest { (problem.new.lots ≡ problem.old.lots) × (problem.new.exposures ≡ problem.old.exposures) }
+    ensures asked { (k : ℕ) → k < 1024 → terms_at problem.new.admitted problem.new.limits k ≡ terms_for (B.Binder.meaning binder.now) (lot_at lots.now (k / 16)) (exposure_at exposures.now (k % 16)) }
 {
-    // No `array::from_fn`: it was tried, and at 1,024 places no proof found that its closure keeps what it borrows.
-    let mut all = [Terms {
-        admitted: false,
-        limit: 0,
-    }; 1024];
-    for (k, of_pair) in all.iter_mut().enumerate() {
-        *of_pair = terms(binder, lots[k / 16], exposures[k % 16]);
+    // By index, since nothing is known of what was written through a `zip` over `iter_mut`.
+    for k in 0..1024usize {
+        let of_pair = terms(binder, lots[k / 16], exposures[k % 16]);
+        problem.admitted[k] = of_pair.admitted;
+        problem.limits[k] = of_pair.limit;
     }
-    all
 }
 
 // The book's lots and exposures with the binder's answers about them.
@@ -101,9 +99,12 @@ pub fn problem<B: Binder>(
     requires { Worths lots.now × Amounts exposures.now }
     ensures { Agrees (situation_of (B.Binder.meaning binder.now) lots.now exposures.now) (seen result) }
 {
-    Problem {
+    let mut problem = Problem {
         lots: lots.map(|lot| lot.map(held)),
         exposures: exposures.map(|exposure| exposure.map(owed)),
-        terms: all_terms(binder, lots, exposures),
-    }
+        admitted: [false; 1024],
+        limits: [0; 1024],
+    };
+    note_terms(&mut problem, binder, lots, exposures);
+    problem
 }

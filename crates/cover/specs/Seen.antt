@@ -5,4 +5,4 @@ use Rattle.cover.specs.declared.problem.Problem.{Problem}
 use Rattle.cover.specs.View.{situation}
 
 abbrev pub seen : Problem → Situation
-seen p = situation p.lots p.exposures p.terms
+seen p = situation p.lots p.exposures p.admitted p.limits

@@ -20,8 +20,8 @@ lot_at lots l = slice_index_or lots l None
 abbrev pub exposure_at : List (Option ℕ) → ℕ → Option ℕ
 exposure_at exposures e = slice_index_or exposures e None
 
-abbrev pub terms_at : List Terms → ℕ → Terms
-terms_at terms k = slice_index_or terms k (record { admitted = false; limit = 0 })
+abbrev pub terms_at : List Bool → List ℕ → ℕ → Terms
+terms_at admitted limits k = record { admitted = flag admitted k; limit = at limits k }
 
 abbrev pub issuer_of : Option Lot → ℕ
 issuer_of None = 0
@@ -40,19 +40,19 @@ abbrev pub pledge : List ℕ → Table
 pledge xs l e = at xs (l * 16 + e)
 
 -- The limit of an issuer at an exposure stands at the issuer's smallest held lot place.
-abbrev pub situation : List (Option Lot) → List (Option ℕ) → List Terms → Situation
-situation lots exposures terms = record {
+abbrev pub situation : List (Option Lot) → List (Option ℕ) → List Bool → List ℕ → Situation
+situation lots exposures admitted limits = record {
   held = λ l. is_some (lot_at lots l);
   issuer = λ l. issuer_of (lot_at lots l);
   worth = λ l. worth_of (lot_at lots l);
   opened = λ e. is_some (exposure_at exposures e);
   amount = λ e. amount_of (exposure_at exposures e);
-  admits = λ l e. (terms_at terms (l * 16 + e)).admitted;
-  limit = λ e i. (terms_at terms (least (λ l. is_some (lot_at lots l) && issuer_of (lot_at lots l) == i) 63 * 16 + e)).limit;
+  admits = λ l e. flag admitted (l * 16 + e);
+  limit = λ e i. at limits (least (λ l. is_some (lot_at lots l) && issuer_of (lot_at lots l) == i) 63 * 16 + e);
 }
 
 -- every value, amount and limit is so small that sums of them never pass 64 bits
-pub record Small (lots : List (Option Lot)) (exposures : List (Option ℕ)) (terms : List Terms) : Type 0 where
+pub record Small (lots : List (Option Lot)) (exposures : List (Option ℕ)) (bounds : List ℕ) : Type 0 where
   pub worths : (l : ℕ) → worth_of (lot_at lots l) < 2 ^ 40
   pub amounts : (e : ℕ) → amount_of (exposure_at exposures e) < 2 ^ 40
-  pub limits : (k : ℕ) → (terms_at terms k).limit < 2 ^ 40
+  pub limits : (k : ℕ) → at bounds k < 2 ^ 40

@@ -1,17 +1,17 @@
 // The arrays of a drawn network, made once for an allocation.
 
-ghost use Rattle.std.specs.Prelude.{◌≡◌, ℕ, ◌+◌, ◌<◌};
+ghost use Rattle.std.specs.Prelude.{◌≡◌, ℕ, ◌+◌, ◌*◌, ◌<◌};
 ghost use Rattle.table.specs.Table.{owed};
 ghost use Rattle.table.specs.Drawn.{slot, arc, cap_of};
 ghost use Rattle.table.specs.Drawn.Arc.{supply, offer, bound, demand};
-ghost use Rattle.cover.specs.View.{at};
+ghost use Rattle.cover.specs.View.{at, terms_at};
 ghost use Rattle.cover.specs.Seen.{seen};
 ghost use Rattle.cover.specs.Drawing.{Slotted, Capacities, Rows, First};
 
-use crate::Problem;
 use crate::drawn::Drawn;
 use crate::pair::{ARCS, BOUNDS, DEMANDS, LOTS, OFFERS, Pair};
 use crate::total::total;
+use crate::{Problem, Terms};
 
 impl Problem {
     // The slot of the lot `l`, from the first held lot place of each issuer before it; `l` is noted where it is the first.
@@ -44,6 +44,17 @@ impl Problem {
         slots
     }
 
+    // The terms of a pair.
+    fn terms(&self, pair: Pair) -> Terms
+        ensures { result ≡ terms_at self.now.admitted self.now.limits (pair.lot * 16 + pair.exposure) }
+    {
+        let k = pair.number();
+        Terms {
+            admitted: self.admitted[k],
+            limit: self.limits[k],
+        }
+    }
+
     fn supply_bears(&self, l: usize) -> u64
         requires { l < 64 }
         ensures { result ≡ cap_of (seen self.now) (supply l) }
@@ -54,7 +65,7 @@ impl Problem {
     fn offer_bears(&self, pair: Pair) -> u64
         ensures { result ≡ cap_of (seen self.now) (offer pair.lot pair.exposure) }
     {
-        let admitted = self.terms[pair.number()].admitted;
+        let admitted = self.terms(pair).admitted;
         match (self.lots[pair.lot], self.exposures[pair.exposure]) {
             (Some(lot), Some(_)) if admitted => lot.worth,
             _ => 0,
@@ -67,7 +78,7 @@ impl Problem {
     {
         let leads = self.lots[pair.lot].is_some() && slots[pair.lot] == pair.lot;
         if leads && self.exposures[pair.exposure].is_some() {
-            self.terms[pair.number()].limit
+            self.terms(pair).limit
         } else {
             0
         }

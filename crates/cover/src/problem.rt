@@ -22,7 +22,9 @@ pub struct Problem {
     pub lots: [Option<Lot>; 64],
     // by exposure place: the amount of the exposure that is open there
     pub exposures: [Option<u64>; 16],
-    // by lot place and exposure place; a limit counts at its issuer's smallest held lot place
-    pub terms: [Terms; 1024],
-    ghost small: { Small lots exposures terms },
+    // by lot place and exposure place: whether the exposure admits the lot, and a limit, which counts at its issuer's smallest held lot
+    // place. Two arrays, and not one of `Terms`, where a flag would take as much room as a limit.
+    pub admitted: [bool; 1024],
+    pub limits: [u64; 1024],
+    ghost small: { Small lots exposures limits },
 }

@@ -1,10 +1,19 @@
 -- To believe: nothing new. What follows from the definitions of curves, pages and values.
 
-use Rattle.std.specs.Prelude.{◌≡◌, ℕ, ◌+◌, ◌<◌, ◌≤◌, ◌⊎◌, List, take}
+use Rattle.std.specs.Prelude.{◌≡◌, ℕ, ◌+◌, ◌<◌, ◌≤◌, ◌⊎◌, List, take, slice_index}
 use Rattle.cause.specs.declared.Cause.{Cause}
-use Rattle.curve.specs.Points.{Points, Lawful, Haircut, Past}
+use Rattle.curve.specs.Points.{Points, points, Lawful, Haircut, Past}
+use Rattle.curve.specs.Listed.{point_at, listed}
 use Rattle.curve.specs.Page.{Page, Accepted, Refused, Written}
 use Rattle.curve.specs.Lot.{collateral}
+use Rattle.curve.specs.declared.curve.point.Point.{Point}
+
+-- where one list has the month of a point, and another its haircut, the curve of the two lists has both as the curve of the points has them
+abbrev pub SameColumns : Type 0
+SameColumns = (n : ℕ) (ps : List Point) (ms hs : List ℕ)
+    → ((points n ms hs).count ≡ (listed n ps).count)
+    × ((j : ℕ) → slice_index ms j ≡ (point_at ps j).month → slice_index hs j ≡ (point_at ps j).haircut
+    → ((points n ms hs).month j ≡ (listed n ps).month j) × ((points n ms hs).haircut j ≡ (listed n ps).haircut j))
 
 -- a page that is written from the curve that it gave has the same bytes
 abbrev pub SameBytes : Type 0

@@ -1,6 +1,13 @@
 // The laws of curves, each in the contract of a function that has it proved.
 
-ghost use Rattle.curve.specs.Laws.{SameBytes, OneVerdict, OneCurve, HaircutsRise, OneHaircut, BetweenNeighbours, UpToTheEnd, ValuesFall};
+ghost use Rattle.curve.specs.Laws.{SameColumns, SameBytes, OneVerdict, OneCurve, HaircutsRise, OneHaircut, BetweenNeighbours, UpToTheEnd, ValuesFall};
+
+// Points in a list give the same curve as their months and their haircuts, each in a list of its own.
+pub fn columns_give_the_points() -> u8
+    ensures { SameColumns }
+{
+    0
+}
 
 // A page written from the curve that it gave has the same bytes; a page has one verdict and one curve.
 pub fn pages_are_faithful() -> u8

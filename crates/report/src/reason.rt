@@ -121,8 +121,8 @@ fn haircut(page: &[u8], point: usize) -> Reason
     }
     let points = page.first().map_or(0, |points| usize::from(*points));
     let place = point.saturating_add(points);
-    match (word(page, place - 1), word(page, place)) {
-        (Some(before), Some(haircut)) if haircut < before => Reason::HaircutFalling,
+    match word(page, place - 1) {
+        Some(before) if word(page, place).unwrap_or(0) < before => Reason::HaircutFalling,
         _ => Reason::HaircutLarge,
     }
 }

@@ -113,15 +113,24 @@ impl Curve {
         Curve { count: 1, points }
     }
 
-    // The curve of a page.
-    pub(crate) fn from_page(page: &[u8]) -> Result<Curve, PageFault>
+    // The curve of a page that has `count` points.
+    fn of_points(page: &[u8], count: usize) -> Result<Curve, PageFault>
+        requires { (count ≡ slice_index page.now 0) × (1 ≤ count) × (count ≤ 16) × (length page.now ≡ 1 + 4 * count) }
         ensures { MatchResult result (λ c. Accepted page.now (held c)) (λ e. Refused page.now e.cause e.point) }
     {
-        let count = counted(page)?;
         let points = points_of(page, count)?;
         refuse_first(count, Cause::PageMonth, |j| breaks_months(&points, j))?;
         refuse_first(count, Cause::PageHaircut, |j| breaks_haircuts(&points, j))?;
         Ok(Curve { count, points })
+    }
+
+    // The curve of a page. Inlined, so that a page of a wrong shape is refused before there is room for a curve.
+    #[inline(always)]
+    pub(crate) fn from_page(page: &[u8]) -> Result<Curve, PageFault>
+        ensures { MatchResult result (λ c. Accepted page.now (held c)) (λ e. Refused page.now e.cause e.point) }
+    {
+        let count = counted(page)?;
+        Curve::of_points(page, count)
     }
 
     // Fills this curve from its page and returns the number of points. A refused page leaves it.
