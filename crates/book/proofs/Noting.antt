@@ -1,6 +1,6 @@
 -- Answers that are written down one after the other, and what they amount to.
 
-use Rattle.std.proofs.Common.{◌≡◌, ℕ, ◌+◌, ◌*◌, ◌/◌, ◌%◌, ◌<◌, Bool, true, false, ◌&&◌, eqb, List, length, replicate, is_some, Some, None, Option, option_map, sym, refl, ap, ◌∙◌, inl, inr, arith, eq-eqb}
+use Rattle.std.proofs.Common.{◌≡◌, ℕ, ◌+◌, ◌*◌, ◌/◌, ◌%◌, ◌^◌, ◌<◌, Bool, true, false, ◌&&◌, eqb, List, length, is_some, Some, None, Option, option_map, sym, refl, ap, ◌∙◌, inl, inr, arith, eq-eqb}
 use Rattle.std.proofs.lemmas.Bool.{eqb-true, cases_lt}
 use Rattle.std.proofs.lemmas.List.{get_or_past}
 use Rattle.binder.specs.Meaning.{Meaning}
@@ -17,7 +17,6 @@ use Rattle.calls.specs.State.{lot_at, exposure_at, held_at, open_at}
 use Rattle.calls.specs.Situation.{issuer_of, worth_of, amount_of, limit_of, situation_of}
 use Rattle.book.specs.Kept.{Worths, Amounts}
 use Rattle.book.specs.Asked.{held_as, limit_for, terms_for}
-use Rattle.book.proofs.Empty.{zeros_low}
 
 -- a limit at a held lot and an open exposure is that of the lot's issuer
 limit_held : (m : Meaning) (l : Option Lot) (x : Option Exposure) → is_some l ≡ true → is_some x ≡ true → limit_for m l x ≡ limit_of m x (issuer_of l)
@@ -78,8 +77,8 @@ module _ (lots : List (Option Lot)) (xs : List (Option Exposure)) (held : List (
   amount_is : (e : ℕ) → e < 16 → amount_held (amount_at amounts e) ≡ amount_of (exposure_at xs e)
   amount_is e h = ap amount_held (ne e h) ∙ same_amount (exposure_at xs e)
 
-  pub small : length held ≡ 64 → length amounts ≡ 16 → Worths lots → Amounts xs → Small held amounts (replicate 1024 0)
-  small len-held len-amounts w a = record {
+  pub small : (bounds : List ℕ) → length held ≡ 64 → length amounts ≡ 16 → Worths lots → Amounts xs → ((k : ℕ) → at bounds k < 2 ^ 40) → Small held amounts bounds
+  small bounds len-held len-amounts w a low = record {
     worths = λ l. elim (cases_lt l 64) [
       | inl h ↦ omega (arith, worth_is l h, w l)
       | inr h ↦ omega (arith, ap worth_held (get_or_past held l None (omega arith)))
@@ -88,7 +87,7 @@ module _ (lots : List (Option Lot)) (xs : List (Option Exposure)) (held : List (
       | inl h ↦ omega (arith, amount_is e h, a e)
       | inr h ↦ omega (arith, ap amount_held (get_or_past amounts e None (omega arith)))
     ];
-    limits = zeros_low 1024;
+    limits = low;
   }
 
   module _ (m : Meaning) (admitted : List Bool) (limits : List ℕ) (np : (k : ℕ) → k < 1024 → terms_at admitted limits k ≡ terms_for m (lot_at lots (k / 16)) (exposure_at xs (k % 16))) where

@@ -1,4 +1,5 @@
 use Rattle.std.proofs.Common.{None, rules}
+use Rattle.book.proofs.Empty.{zeros_low}
 use Rattle.book.proofs.Noting.{agrees, small}
 use Rattle.book.proofs.asking.problem.Goals as goal
 
@@ -6,7 +7,7 @@ pub invariant_of-problem : goal.invariant_of-problem
 invariant_of-problem g c = record {
   small = small c.args.lots.now c.args.exposures.now c.map.result c.map-2.result
       (λ l h. let w = c.map.ensures.items.at l None None h in search rules) (λ e h. let w = c.map-2.ensures.items.at e None None h in search rules)
-      c.map.ensures.items.long c.map-2.ensures.items.long c.requires.0 c.requires.1;
+      _ c.map.ensures.items.long c.map-2.ensures.items.long c.requires.0 c.requires.1 (zeros_low 1024);
 }
 
 pub returns : goal.returns
